@@ -1,0 +1,35 @@
+// The stored machine of the dispatcher. Which state of document 01 it shows is said in specs/Shown.antt.
+ghost use mathlib.Core.Path.{_≡_};
+ghost use Rattle.dispatcher.specs.Shown.{emptyMachine};
+use rules::Running;
+use rules::Thread;
+use rules::Timeslice;
+
+pub struct Machine {
+    pub threads: [Thread; 128],
+    pub timeslices: [Timeslice; 128],
+    // The turn order, from its front; free entries hold 0.
+    pub order: [u8; 128],
+    // L and T, the numbers of live threads and timeslices.
+    pub live_threads: u8,
+    pub live_timeslices: u8,
+    pub running: Running,
+}
+
+impl Machine {
+    // No thread, no timeslice and nothing running.
+    pub fn empty() -> Machine
+        ensures { λ r. ⌜ r ≡ emptyMachine ⌝ }
+    {
+        let thread = Thread::FREE;
+        let timeslice = Timeslice::FREE;
+        Machine {
+            threads: [thread; Thread::LIMIT],
+            timeslices: [timeslice; Timeslice::LIMIT],
+            order: [0; Timeslice::LIMIT],
+            live_threads: 0,
+            live_timeslices: 0,
+            running: Running::Nothing,
+        }
+    }
+}

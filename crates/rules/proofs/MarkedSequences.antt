@@ -1,0 +1,219 @@
+-- Document 01, "Marked sequences": K1 to K11 and a row of our own as one table, and one statement that every row meets.
+-- Proved by computation: antt runs the definitions on each row.
+use Prim.Native.Nat.{ℕ}
+use Prim.Native.String.{String}
+use mathlib.Core.Path.{_≡_, refl}
+use mathlib.Core.List.{List, [], _∷_, _++_}
+use mathlib.Core.Bool.{Bool, true}
+use Rattle.rules.specs.declared.Role.the-variants.{Client, Server}
+use Rattle.rules.specs.declared.Place.{Place}
+use Rattle.rules.specs.declared.Place.the-variants.{Queue, Behind, On, Stalled}
+use Rattle.rules.specs.declared.Event.{Event}
+use Rattle.rules.specs.declared.Event.the-variants.{Create, Give, Call, Reply, Block, Wake, Charge, Abort}
+use Rattle.rules.specs.State.{State, empty, placeAt}
+use Rattle.rules.specs.Sound.{sound}
+use Rattle.rules.specs.Lists.{after}
+use Rattle.rules.specs.EventFile.{fileOf, eventsOf}
+use Rattle.rules.specs.Key.{bytes, key, plainKey}
+use Rattle.rules.proofs.Computing.{computing}
+
+-- a line of the key: all columns but the last, and the last
+pub record Line : Type 0 where
+  pub columns : String
+  pub links : String
+
+-- what a row prints
+pub data Prints : Type 0 where
+  lines : List Line → Prints
+  fileRefused : String → Prints
+
+-- a timeslice with its place
+pub record Stands : Type 0 where
+  pub timeslice : ℕ
+  pub place : Place
+
+pub record Row : Type 0 where
+  pub file : List ℕ
+  pub prints : Prints
+  pub places : List Stands
+
+unfoldable pub linesText : List Line → List ℕ
+linesText [] = []
+linesText (l ∷ ls) = bytes (l .columns) ++ bytes " " ++ bytes (l .links) ++ bytes "\n" ++ linesText ls
+
+unfoldable pub plainLinesText : List Line → List ℕ
+plainLinesText [] = []
+plainLinesText (l ∷ ls) = bytes (l .columns) ++ bytes "\n" ++ plainLinesText ls
+
+unfoldable pub text : Prints → List ℕ
+text (lines ls) = linesText ls
+text (fileRefused t) = bytes t ++ bytes "\n"
+
+unfoldable pub plainText : Prints → List ℕ
+plainText (lines ls) = plainLinesText ls
+plainText (fileRefused t) = bytes t ++ bytes "\n"
+
+unfoldable pub stands : List Stands → State → List Place
+stands [] s = []
+stands (x ∷ xs) s = placeAt (s .places) (x .timeslice) ∷ stands xs s
+
+unfoldable pub placesOf : List Stands → List Place
+placesOf [] = []
+placesOf (x ∷ xs) = x .place ∷ placesOf xs
+
+-- the machine after a row's file
+unfoldable pub machineAfter : Row → State
+machineAfter r = after (eventsOf (r .file)) empty
+
+-- what the definitions make of a row: what the key program prints, what the plain machine answers, the places, and whether the machine is sound
+pub record Result : Type 0 where
+  pub printed : List ℕ
+  pub plain : List ℕ
+  pub places : List Place
+  pub soundAfter : Bool
+
+unfoldable pub result : Row → Result
+result r =
+    record {
+      printed = key (r .file);
+      plain = plainKey (r .file);
+      places = stands (r .places) (machineAfter r);
+      soundAfter = sound (machineAfter r);
+    }
+
+unfoldable pub expected : Row → Result
+expected r = record { printed = text (r .prints); plain = plainText (r .prints); places = placesOf (r .places); soundAfter = true }
+
+-- the statement
+abbrev pub Meets : Row → Type 0
+Meets r = result r ≡ expected r
+
+abbrev pub All : (Row → Type 0) → List Row → Type 0
+All P [] = Unit {0}
+All P (r ∷ rs) = P r × All P rs
+
+abbrev at : ℕ → Place → Stands
+at t p = record { timeslice = t; place = p }
+
+infix 70 _/_
+abbrev _/_ : String → String → Line
+c / l = record { columns = c; links = l }
+
+unfoldable pub K1 : Row
+K1 =
+    record {
+      file =
+          0x00 ∷ 0x00 ∷ 0x00 ∷ 0x1B ∷ 0x01 ∷ 0x03 ∷ 0x01 ∷ 0x00 ∷ 0x00 ∷ 0x03 ∷ 0x01 ∷ 0x01 ∷ 0x01 ∷ 0x06 ∷ 0x02 ∷ 0x05 ∷ 0x00 ∷ 0x0A
+          ∷ 0x00 ∷ 0x64 ∷ 0x02 ∷ 0x03 ∷ 0x01 ∷ 0x03 ∷ 0x07 ∷ 0x00 ∷ 0x1E ∷ 0x01 ∷ 0x04 ∷ 0x01 ∷ 0x04 ∷ [];
+      prints =
+          lines
+          ("1 ok 0 - - 0" / "0" ∷ "2 ok 0 - - 0" / "0" ∷ "3 ok 0 0 5 0" / "0" ∷ "4 ok 0 1 5 1" / "0" ∷ "5 ok 0 1 5 1" / "0"
+          ∷ "6 ok 0 0 5 0" / "0" ∷ "7 no 8 0 5 0" / "0" ∷ []);
+      places = at 5 Queue ∷ [];
+    }
+
+-- K2 to K6: one list of events that goes on from row to row
+unfoldable pub two : List Event
+two =
+    Create 0 Client ∷ Create 1 Server ∷ Create 2 Client ∷ Give 0 0 10 100 ∷ Call 1 ∷ Give 2 2 20 100 ∷ Call 1 ∷ []
+
+unfoldable pub twoPrints : List Line
+twoPrints =
+    "1 ok 0 - - 0" / "0" ∷ "2 ok 0 - - 0" / "0" ∷ "3 ok 0 - - 0" / "0" ∷ "4 ok 0 0 0 0" / "0" ∷ "5 ok 0 1 0 1" / "0"
+    ∷ "6 ok 0 2 2 0" / "0" ∷ "7 ok 0 1 2 0" / "1" ∷ []
+
+unfoldable pub K2 : Row
+K2 = record { file = fileOf two; prints = lines twoPrints; places = at 0 Queue ∷ at 2 Queue ∷ [] }
+
+unfoldable pub K3 : Row
+K3 =
+    record {
+      file = fileOf (two ++ (Reply ∷ []));
+      prints = lines (twoPrints ++ ("8 ok 0 1 2 1" / "2" ∷ []));
+      places = at 0 Queue ∷ at 2 Queue ∷ [];
+    }
+
+unfoldable pub four : List Event
+four = two ++ (Reply ∷ Block ∷ Call 1 ∷ [])
+
+unfoldable pub fourPrints : List Line
+fourPrints = twoPrints ++ ("8 ok 0 1 2 1" / "2" ∷ "9 ok 0 0 0 0" / "1" ∷ "10 ok 0 - - 0" / "1" ∷ [])
+
+unfoldable pub K4 : Row
+K4 = record { file = fileOf four; prints = lines fourPrints; places = at 0 (On 1) ∷ at 2 (On 1) ∷ [] }
+
+unfoldable pub K5 : Row
+K5 =
+    record {
+      file = fileOf (four ++ (Wake 1 ∷ []));
+      prints = lines (fourPrints ++ ("11 ok 0 1 2 1" / "1" ∷ []));
+      places = at 0 (Behind 2) ∷ at 2 Queue ∷ [];
+    }
+
+unfoldable pub K6 : Row
+K6 =
+    record {
+      file = fileOf (four ++ (Wake 1 ∷ Abort 2 ∷ Block ∷ []));
+      prints = lines (fourPrints ++ ("11 ok 0 1 2 1" / "1" ∷ "12 ok 0 2 2 0" / "1" ∷ "13 ok 0 1 0 0" / "1" ∷ []));
+      places = at 0 Queue ∷ at 2 (On 2) ∷ [];
+    }
+
+unfoldable pub seven : List Event
+seven = Create 0 Client ∷ Create 1 Server ∷ Create 2 Server ∷ Give 0 0 10 100 ∷ Call 1 ∷ Call 2 ∷ Call 1 ∷ []
+
+unfoldable pub sevenPrints : List Line
+sevenPrints =
+    "1 ok 0 - - 0" / "0" ∷ "2 ok 0 - - 0" / "0" ∷ "3 ok 0 - - 0" / "0" ∷ "4 ok 0 0 0 0" / "0" ∷ "5 ok 0 1 0 1" / "0"
+    ∷ "6 ok 0 2 0 2" / "0" ∷ "7 ok 0 - - 0" / "3" ∷ []
+
+unfoldable pub K7 : Row
+K7 = record { file = fileOf seven; prints = lines sevenPrints; places = at 0 Stalled ∷ [] }
+
+unfoldable pub K8 : Row
+K8 =
+    record {
+      file = fileOf (seven ++ (Abort 2 ∷ []));
+      prints = lines (sevenPrints ++ ("8 ok 0 2 0 2" / "5" ∷ []));
+      places = at 0 Queue ∷ [];
+    }
+
+unfoldable pub K9 : Row
+K9 =
+    record {
+      file = fileOf (Create 0 Client ∷ Create 1 Client ∷ Give 0 0 10 5 ∷ Give 1 1 10 5 ∷ Charge 6 ∷ Charge 5 ∷ []);
+      prints =
+          lines
+          ("1 ok 0 - - 0" / "0" ∷ "2 ok 0 - - 0" / "0" ∷ "3 ok 0 0 0 0" / "0" ∷ "4 ok 0 0 0 0" / "0" ∷ "5 no 11 0 0 0" / "0"
+          ∷ "6 ok 0 1 1 0" / "0" ∷ []);
+      places = at 0 Queue ∷ at 1 Queue ∷ [];
+    }
+
+unfoldable pub K10 : Row
+K10 = record { file = []; prints = fileRefused "file 14"; places = [] }
+
+unfoldable pub K11 : Row
+K11 =
+    record {
+      file = fileOf (Create 127 Client ∷ Create 128 Client ∷ []);
+      prints = lines ("1 ok 0 - - 0" / "0" ∷ "2 no 2 - - 0" / "0" ∷ []);
+      places = [];
+    }
+
+-- "A called server whose own, higher timeslice stays On it" is wrong: server 1 owns timeslice 1, priority 30. It waits On its
+-- Idle owner until client 0 calls server 1, and then pays for it.
+unfoldable pub ownTimeslice : Row
+ownTimeslice =
+    record {
+      file = fileOf (Create 0 Client ∷ Create 1 Server ∷ Give 0 0 10 100 ∷ Give 1 1 30 100 ∷ Call 1 ∷ []);
+      prints =
+          lines
+          ("1 ok 0 - - 0" / "0" ∷ "2 ok 0 - - 0" / "0" ∷ "3 ok 0 0 0 0" / "0" ∷ "4 ok 0 0 0 0" / "0" ∷ "5 ok 0 1 1 0" / "0" ∷ []);
+      places = at 0 Queue ∷ at 1 Queue ∷ [];
+    }
+
+unfoldable pub rows : List Row
+rows = K1 ∷ K2 ∷ K3 ∷ K4 ∷ K5 ∷ K6 ∷ K7 ∷ K8 ∷ K9 ∷ K10 ∷ K11 ∷ ownTimeslice ∷ []
+
+pub marked : All Meets rows
+unfolding computing linesText plainLinesText text plainText stands placesOf machineAfter result expected K1 two twoPrints K2 K3 four fourPrints K4 K5 K6 seven sevenPrints K7 K8 K9 K10 K11 ownTimeslice rows
+marked = (refl, (refl, (refl, (refl, (refl, (refl, (refl, (refl, (refl, (refl, (refl, (refl, tt))))))))))))

@@ -1,0 +1,222 @@
+-- Document 01, "Event file and key" and "Reading a file": the event file, its reader and its writer.
+use Prim.Native.Nat.{ℕ, zero, suc, _+_, _-_, _*_, _/_, _%_}
+use mathlib.Core.List.{List, [], _∷_, _++_}
+use mathlib.Core.Bool.{Bool, true, false, cond, not, _||_}
+use mathlib.Core.Option.{Option, none, some}
+use lib.ListN.{length, getD, take, drop}
+use lib.Seq.{sets}
+use lib.Dec.{leb, ltb, eqb}
+use Rattle.rules.specs.declared.Role.{Role}
+use Rattle.rules.specs.declared.Role.the-variants.{Client, Server}
+use Rattle.rules.specs.declared.Event.{Event}
+use Rattle.rules.specs.declared.Event.the-variants.{Create, Give, Call, Reply, Block, Wake, Charge, Abort}
+use Rattle.rules.specs.Refusals.{_gives_else_}
+
+-- "Quantum and charge are big-endian."
+abbrev pub wordOf : ℕ → ℕ → ℕ
+wordOf high low = high * 256 + low
+
+abbrev pub highByte : ℕ → ℕ
+highByte n = n / 256
+
+abbrev pub lowByte : ℕ → ℕ
+lowByte n = n % 256
+
+-- "role 0 client or 1 server"
+abbrev pub roleByte : Role → ℕ
+roleByte Client = 0
+roleByte Server = 1
+
+-- "one length byte counting what follows it, a kind byte, operands"
+abbrev pub recordOf : Event → List ℕ
+recordOf (Create n r) = 3 ∷ 1 ∷ n ∷ roleByte r ∷ []
+recordOf (Give t n priority quantum) = 6 ∷ 2 ∷ t ∷ n ∷ priority ∷ highByte quantum ∷ lowByte quantum ∷ []
+recordOf (Call server) = 2 ∷ 3 ∷ server ∷ []
+recordOf Reply = 1 ∷ 4 ∷ []
+recordOf Block = 1 ∷ 5 ∷ []
+recordOf (Wake n) = 2 ∷ 6 ∷ n ∷ []
+recordOf (Charge units) = 3 ∷ 7 ∷ highByte units ∷ lowByte units ∷ []
+recordOf (Abort n) = 2 ∷ 8 ∷ n ∷ []
+
+unfoldable pub recordsOf : List Event → List ℕ
+recordsOf [] = []
+recordsOf (e ∷ es) = recordOf e ++ recordsOf es
+
+-- "A length of 4 bytes, big-endian, counting all that follows; one version byte, 01; records."
+abbrev pub fourBytes : ℕ → List ℕ
+fourBytes n = n / 16777216 ∷ n / 65536 % 256 ∷ n / 256 % 256 ∷ n % 256 ∷ []
+
+unfoldable pub fileOf : List Event → List ℕ
+fileOf es = fourBytes (1 + length (recordsOf es)) ++ (1 ∷ recordsOf es)
+
+-- operands: none, one byte, one number of two bytes; none fits another length
+abbrev pub noOperand : Event → List ℕ → Option Event
+noOperand e [] = some e
+noOperand e (a ∷ rest) = none
+
+abbrev pub oneByte : (ℕ → Event) → List ℕ → Option Event
+oneByte f [] = none
+oneByte f (a ∷ []) = some (f a)
+oneByte f (a ∷ b ∷ rest) = none
+
+abbrev pub oneWord : (ℕ → Event) → List ℕ → Option Event
+oneWord f [] = none
+oneWord f (a ∷ []) = none
+oneWord f (a ∷ b ∷ []) = some (f (wordOf a b))
+oneWord f (a ∷ b ∷ c ∷ rest) = none
+
+abbrev pub createWith : ℕ → ℕ → Option Event
+createWith n role = cond (eqb role 0) (some (Create n Client)) (cond (eqb role 1) (some (Create n Server)) none)
+
+abbrev pub createFrom : List ℕ → Option Event
+createFrom [] = none
+createFrom (a ∷ []) = none
+createFrom (a ∷ b ∷ []) = createWith a b
+createFrom (a ∷ b ∷ c ∷ rest) = none
+
+abbrev pub giveFrom : List ℕ → Option Event
+giveFrom [] = none
+giveFrom (a ∷ []) = none
+giveFrom (a ∷ b ∷ []) = none
+giveFrom (a ∷ b ∷ c ∷ []) = none
+giveFrom (a ∷ b ∷ c ∷ d ∷ []) = none
+giveFrom (a ∷ b ∷ c ∷ d ∷ e ∷ []) = some (Give a b c (wordOf d e))
+giveFrom (a ∷ b ∷ c ∷ d ∷ e ∷ f ∷ rest) = none
+
+-- "Kinds: 1 create; 2 give; 3 call; 4 reply; 5 block; 6 wake; 7 charge; 8 abort": the operands of that kind, or none where they do not fit it
+abbrev pub eventOf : ℕ → List ℕ → Option Event
+eventOf kind operands =
+    cond (eqb kind 1) (createFrom operands)
+    (cond (eqb kind 2) (giveFrom operands)
+    (cond (eqb kind 3) (oneByte Call operands)
+    (cond (eqb kind 4) (noOperand Reply operands)
+    (cond (eqb kind 5) (noOperand Block operands)
+    (cond (eqb kind 6) (oneByte Wake operands)
+    (cond (eqb kind 7) (oneWord Charge operands)
+    (cond (eqb kind 8) (oneByte Abort operands) none)))))))
+
+abbrev pub bodyOf : List ℕ → Option Event
+bodyOf [] = none
+bodyOf (kind ∷ operands) = eventOf kind operands
+
+-- the event whose record begins these bytes; none for "a record with unknown kind, wrong length, role above 1, or running past the end"
+unfoldable pub recordAt : List ℕ → Option Event
+recordAt [] = none
+recordAt (n ∷ rest) = cond (leb n (length rest)) (bodyOf (take n rest)) none
+
+abbrev pub joined : Option Event → Option (List Event) → Option (List Event)
+joined none es = none
+joined (some e) none = none
+joined (some e) (some es) = some (e ∷ es)
+
+-- the events of these bytes, of which the first few still belong to a record that has been read
+unfoldable pub eventsAfter : ℕ → List ℕ → Option (List Event)
+eventsAfter zero [] = some []
+eventsAfter (suc k) [] = none
+eventsAfter zero (n ∷ rest) = joined (recordAt (n ∷ rest)) (eventsAfter n rest)
+eventsAfter (suc k) (b ∷ rest) = eventsAfter k rest
+
+abbrev pub lengthField : List ℕ → ℕ
+lengthField file = wordOf (wordOf (wordOf (getD file 0 0) (getD file 1 0)) (getD file 2 0)) (getD file 3 0)
+
+-- "14 (fewer than 4 bytes, more than 65,536 bytes, length field 0 or not the bytes that follow it), 15 (version not 1)"
+abbrev pub headRefusal : List ℕ → ℕ
+headRefusal file =
+    ltb (length file) 4 || ltb 65536 (length file) || eqb (lengthField file) 0 || not (eqb (lengthField file + 4) (length file)) gives 14 else
+    not (eqb (getD file 4 0) 1) gives 15 else 0
+
+-- the events of a file after its first 5 bytes; none where a record is not good
+abbrev pub recordsIn : List ℕ → Option (List Event)
+recordsIn file = eventsAfter 0 (drop 5 file)
+
+abbrev pub isNone : Option (List Event) → Bool
+isNone none = true
+isNone (some es) = false
+
+-- "Opening checks the whole file."
+abbrev pub fileRefusalAfter : ℕ → List ℕ → ℕ
+fileRefusalAfter zero file = isNone (recordsIn file) gives 16 else 0
+fileRefusalAfter (suc number) file = suc number
+
+unfoldable pub fileRefusal : List ℕ → ℕ
+fileRefusal file = fileRefusalAfter (headRefusal file) file
+
+-- the events of an accepted file
+abbrev pub orNone : Option (List Event) → List Event
+orNone none = []
+orNone (some es) = es
+
+unfoldable pub eventsOf : List ℕ → List Event
+eventsOf file = orNone (recordsIn file)
+
+-- "An accepted opening sets the offset to 5, a refused one to 0."
+pub record Opened : Type 0 where
+  pub refusal : ℕ
+  pub offset : ℕ
+
+abbrev pub openedAs : ℕ → Opened
+openedAs zero = record { refusal = 0; offset = 5 }
+openedAs (suc number) = record { refusal = suc number; offset = 0 }
+
+unfoldable pub opened : List ℕ → Opened
+opened file = openedAs (fileRefusal file)
+
+-- what a step finds: an event, the file's end, or the refusal 16
+pub data Found : Type 0 where
+  event : Event → Found
+  end : Found
+  bad : Found
+
+pub record Stepped : Type 0 where
+  pub found : Found
+  pub offset : ℕ
+
+-- "A step that reads a record moves the offset to the byte after it." The others keep the offset.
+abbrev pub steppedTo : ℕ → ℕ → Option Event → Stepped
+steppedTo at next none = record { found = bad; offset = at }
+steppedTo at next (some e) = record { found = event e; offset = next }
+
+-- "A step first gives 16 at an offset below 5 or past the end; then, at the file's end, it says so; then it gives 16 where no good record begins."
+unfoldable pub stepped : List ℕ → ℕ → Stepped
+stepped file at =
+    cond (ltb at 5 || ltb (length file) at) (record { found = bad; offset = at })
+    (cond (eqb at (length file)) (record { found = end; offset = at })
+    (steppedTo at (at + 1 + getD file at 0) (recordAt (drop at file))))
+
+-- what writing hands back: the refusal number, the bytes filled, and the whole buffer
+pub record Written : Type 0 where
+  pub refusal : ℕ
+  pub filled : ℕ
+  pub buffer : List ℕ
+
+-- "Starting a file writes 5 bytes; 17 in a smaller buffer."
+unfoldable pub started : List ℕ → Written
+started buffer =
+    cond (ltb (length buffer) 5) (record { refusal = 17; filled = 0; buffer = buffer })
+    (record { refusal = 0; filled = 5; buffer = sets buffer 0 (fileOf []) })
+
+-- "14 (also if that passes the buffer), 15, 16 of that file, then 17 (the record would pass the buffer or 65,536 bytes)"
+abbrev pub roomRefusal : ℕ → ℕ → ℕ
+roomRefusal after room = ltb room after || ltb 65536 after gives 17 else 0
+
+abbrev pub appendRefusalAfter : ℕ → List ℕ → ℕ → Event → ℕ
+appendRefusalAfter zero buffer filled e = roomRefusal (filled + length (recordOf e)) (length buffer)
+appendRefusalAfter (suc number) buffer filled e = suc number
+
+unfoldable pub appendRefusal : List ℕ → ℕ → Event → ℕ
+appendRefusal buffer filled e =
+    ltb (length buffer) filled gives 14 else
+    appendRefusalAfter (fileRefusal (take filled buffer)) buffer filled e
+
+-- "A write adds the record, renews the length field and touches no other byte."
+abbrev pub appendedAs : ℕ → List ℕ → ℕ → Event → Written
+appendedAs zero buffer filled e =
+    record {
+      refusal = 0;
+      filled = filled + length (recordOf e);
+      buffer = sets (sets buffer filled (recordOf e)) 0 (fourBytes (filled + length (recordOf e) - 4));
+    }
+appendedAs (suc number) buffer filled e = record { refusal = suc number; filled = filled; buffer = buffer }
+
+unfoldable pub appended : List ℕ → ℕ → Event → Written
+appended buffer filled e = appendedAs (appendRefusal buffer filled e) buffer filled e

@@ -1,0 +1,78 @@
+-- Document 01, "Event file and key": the key that the key program prints.
+use Prim.Native.Nat.{ℕ, zero, suc, _+_, _/_, _%_}
+use Prim.Native.Char.{Char, code}
+use Prim.Native.String.{String, [] as noText, _∷_ as _then_}
+use mathlib.Core.List.{List, [], _∷_, _++_}
+use mathlib.Core.Bool.{Bool, true, false}
+use lib.Dec.{ltb}
+use Rattle.rules.specs.declared.Running.{Running}
+use Rattle.rules.specs.declared.Running.the-variants.{Nothing, Runs}
+use Rattle.rules.specs.State.{empty}
+use Rattle.rules.specs.Events.{Answered}
+use Rattle.rules.specs.Plain.{emptyPlain, PlainAnswered}
+use Rattle.rules.specs.Lists.{run, plainRun}
+use Rattle.rules.specs.EventFile.{fileRefusal, eventsOf}
+
+-- a text as its bytes
+unfoldable pub bytes : String → List ℕ
+bytes noText = []
+bytes (c then s) = code c ∷ bytes s
+
+-- a number in decimal digits; the first argument bounds how many there are, the last says whether one is left
+abbrev pub digit : ℕ → ℕ
+digit n = 48 + n
+
+unfoldable pub digits : ℕ → ℕ → Bool → List ℕ
+digits zero n last = []
+digits (suc k) n true = digit n ∷ []
+digits (suc k) n false = digits k (n / 10) (ltb (n / 10) 10) ++ (digit (n % 10) ∷ [])
+
+unfoldable pub decimal : ℕ → List ℕ
+decimal n = digits (suc n) n (ltb n 10)
+
+-- "the bytes `ok` or `no`"
+abbrev pub verdictWord : ℕ → List ℕ
+verdictWord zero = bytes "ok"
+verdictWord (suc number) = bytes "no"
+
+-- "running thread or `-`, timeslice or `-`, donation count"
+abbrev pub runningColumns : Running → List ℕ
+runningColumns Nothing = bytes "- - 0"
+runningColumns (Runs n t count) = decimal n ++ bytes " " ++ decimal t ++ bytes " " ++ decimal count
+
+-- "event number from 1, the bytes `ok` or `no`, refusal number", and the running columns: all but the last column
+unfoldable pub columns : ℕ → ℕ → Running → List ℕ
+columns number refusal running =
+    decimal number ++ bytes " " ++ verdictWord refusal ++ bytes " " ++ decimal refusal ++ bytes " " ++ runningColumns running
+
+-- "links followed; single spaces, a line feed"
+unfoldable pub line : ℕ → Answered → List ℕ
+line number a = columns number (a .refusal) (a .state .running) ++ bytes " " ++ decimal (a .links) ++ bytes "\n"
+
+unfoldable pub lines : ℕ → List Answered → List ℕ
+lines number [] = []
+lines number (a ∷ rest) = line number a ++ lines (number + 1) rest
+
+-- "A refused file prints one line: `file`, a space, the number."
+unfoldable pub fileLine : ℕ → List ℕ
+fileLine number = bytes "file " ++ decimal number ++ bytes "\n"
+
+abbrev pub keyAfter : ℕ → List ℕ → List ℕ
+keyAfter zero file = lines 1 (run (eventsOf file) empty)
+keyAfter (suc number) file = fileLine (suc number)
+
+-- the whole key of a file
+unfoldable pub key : List ℕ → List ℕ
+key file = keyAfter (fileRefusal file) file
+
+-- the plain machine's key: the same lines without their last column
+unfoldable pub plainLines : ℕ → List PlainAnswered → List ℕ
+plainLines number [] = []
+plainLines number (a ∷ rest) = columns number (a .refusal) (a .plain .running) ++ bytes "\n" ++ plainLines (number + 1) rest
+
+abbrev pub plainKeyAfter : ℕ → List ℕ → List ℕ
+plainKeyAfter zero file = plainLines 1 (plainRun (eventsOf file) emptyPlain)
+plainKeyAfter (suc number) file = fileLine (suc number)
+
+unfoldable pub plainKey : List ℕ → List ℕ
+plainKey file = plainKeyAfter (fileRefusal file) file

@@ -1,0 +1,63 @@
+-- Lists of events, run on either machine: each event gets the machine that the last one handed back.
+use Prim.Native.Nat.{ℕ}
+use mathlib.Core.List.{List, [], _∷_, map}
+use mathlib.Core.Bool.{Bool, true, _&&_}
+use lib.Dec.{leb}
+use Rattle.rules.specs.declared.Thread.{Thread}
+use Rattle.rules.specs.declared.Running.{Running}
+use Rattle.rules.specs.declared.Event.{Event}
+use Rattle.rules.specs.declared.Event.the-variants.{Create, Give, Call, Reply, Block, Wake, Charge, Abort}
+use Rattle.rules.specs.State.{State, Plain}
+use Rattle.rules.specs.Walk.{Link, linkOf}
+use Rattle.rules.specs.Events.{Answered, offer}
+use Rattle.rules.specs.Plain.{PlainAnswered, plainOffer}
+
+-- the answers, each with the machine after its event
+unfoldable pub run : List Event → State → List Answered
+run [] s = []
+run (e ∷ es) s = let a = offer e s in a ∷ run es (a .state)
+
+-- the machine after the whole list
+unfoldable pub after : List Event → State → State
+after [] s = s
+after (e ∷ es) s = after es (offer e s .state)
+
+unfoldable pub plainRun : List Event → Plain → List PlainAnswered
+plainRun [] p = []
+plainRun (e ∷ es) p = let a = plainOffer e p in a ∷ plainRun es (a .plain)
+
+-- what demand 3 compares after each event: the refusal number; the running thread, the paying timeslice and the donation count; all links
+pub record Seen : Type 0 where
+  pub refusal : ℕ
+  pub running : Running
+  pub links : List Link
+
+abbrev pub linksOf : List Thread → List Link
+linksOf ts = map (λ t. linkOf (t .hold)) ts
+
+abbrev pub seen : Answered → Seen
+seen a = record { refusal = a .refusal; running = a .state .running; links = linksOf (a .state .threads) }
+
+abbrev pub plainSeen : PlainAnswered → Seen
+plainSeen a = record { refusal = a .refusal; running = a .plain .running; links = linksOf (a .plain .threads) }
+
+-- "An event holds only what these operands can hold": a byte, or two. An event of the code and an event read from a file always do.
+abbrev pub byte : ℕ → Bool
+byte n = leb n 255
+
+abbrev pub twoBytes : ℕ → Bool
+twoBytes n = leb n 65535
+
+abbrev pub fits : Event → Bool
+fits (Create n r) = byte n
+fits (Give t n priority quantum) = byte t && byte n && byte priority && twoBytes quantum
+fits (Call server) = byte server
+fits Reply = true
+fits Block = true
+fits (Wake n) = byte n
+fits (Charge units) = twoBytes units
+fits (Abort n) = byte n
+
+unfoldable pub allFit : List Event → Bool
+allFit [] = true
+allFit (e ∷ es) = fits e && allFit es

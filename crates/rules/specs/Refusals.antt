@@ -1,0 +1,60 @@
+-- Document 01, "Refusals, operation by operation", after the refusal 1 of an unsound machine. Both machines refuse by these.
+use Prim.Native.Nat.{ℕ}
+use mathlib.Core.List.{List}
+use mathlib.Core.Bool.{Bool, true, false, cond, not, _||_}
+use lib.Dec.{ltb, eqb}
+use Rattle.rules.specs.declared.Hold.{Hold}
+use Rattle.rules.specs.declared.Hold.the-variants.{Ready, Idle, Blocked, Calling, Helping}
+use Rattle.rules.specs.declared.Event.{Event}
+use Rattle.rules.specs.declared.Event.the-variants.{Create, Give, Call, Reply, Block, Wake, Charge, Abort}
+use Rattle.rules.specs.Tests.{member, some-of}
+use Rattle.rules.specs.State.{Plain, holdAt, liveAt, ownerAt, sliceAt, nothingRuns, runningThread, currentTimeslice}
+use Rattle.rules.specs.Sound.{isBlocked, serverAt}
+
+-- the first fitting number; 0 for none
+infixr 20 _gives_else_
+abbrev pub _gives_else_ : Bool → ℕ → ℕ → ℕ
+fits gives number else rest = cond fits number rest
+
+abbrev pub aboveLimit : ℕ → Bool
+aboveLimit n = ltb 127 n
+
+abbrev pub ownsOne : Plain → ℕ → Bool
+ownsOne p n = some-of (λ t. eqb (ownerAt (p .slices) t) n) (p .order)
+
+abbrev pub linked : Hold → Bool
+linked Ready = false
+linked Idle = false
+linked Blocked = false
+linked (Calling s) = true
+linked (Helping s) = true
+
+abbrev pub refusal : Event → Plain → ℕ
+refusal (Create n r) p = aboveLimit n gives 2 else liveAt (p .threads) n gives 3 else 0
+refusal (Give t n priority quantum) p =
+    aboveLimit t || aboveLimit n gives 2 else
+    member t (p .order) gives 3 else
+    not (liveAt (p .threads) n) gives 4 else
+    ownsOne p n gives 13 else
+    eqb quantum 0 gives 12 else 0
+refusal (Call s) p =
+    nothingRuns (p .running) gives 5 else
+    aboveLimit s gives 2 else
+    not (liveAt (p .threads) s) gives 4 else
+    not (serverAt (p .threads) s) gives 6 else
+    eqb s (runningThread (p .running)) gives 7 else 0
+refusal Reply p =
+    nothingRuns (p .running) gives 5 else
+    not (serverAt (p .threads) (runningThread (p .running))) gives 8 else 0
+refusal Block p = nothingRuns (p .running) gives 5 else 0
+refusal (Wake n) p =
+    aboveLimit n gives 2 else
+    not (liveAt (p .threads) n) gives 4 else
+    not (isBlocked (holdAt (p .threads) n)) gives 9 else 0
+refusal (Charge units) p =
+    nothingRuns (p .running) gives 5 else
+    eqb units 0 || ltb (sliceAt (p .slices) (currentTimeslice (p .running)) .left) units gives 11 else 0
+refusal (Abort n) p =
+    aboveLimit n gives 2 else
+    not (liveAt (p .threads) n) gives 4 else
+    not (linked (holdAt (p .threads) n)) gives 10 else 0

@@ -1,0 +1,121 @@
+// Document 01, "What belongs to the machine": the records of threads and timeslices, and the events.
+// What they mean is defined in specs/.
+
+// A thread is a client or a server.
+pub enum Role {
+    Client,
+    Server,
+}
+
+// Calling is a donation link to a server, Helping a helping link.
+pub enum Hold {
+    Ready,
+    Idle,
+    Blocked,
+    Calling(u8),
+    Helping(u8),
+}
+
+// Orphan: the caller served has gone, and its request is unfinished.
+pub enum Service {
+    Nobody,
+    Serving(u8),
+    Orphan,
+}
+
+pub struct Thread {
+    pub live: bool,
+    pub role: Role,
+    pub hold: Hold,
+    pub service: Service,
+}
+
+impl Thread {
+    // The most threads: numbers run from 0 to 127.
+    pub const LIMIT: usize = 128;
+
+    // The one value of a free slot.
+    pub const FREE: Thread = Thread {
+        live: false,
+        role: Role::Client,
+        hold: Hold::Ready,
+        service: Service::Nobody,
+    };
+}
+
+pub enum Place {
+    Queue,
+    Behind(u8),
+    On(u8),
+    Stalled,
+}
+
+pub struct Timeslice {
+    pub owner: u8,
+    pub priority: u8,
+    pub quantum: u16,
+    pub left: u16,
+    pub place: Place,
+}
+
+impl Timeslice {
+    // The most timeslices: numbers run from 0 to 127.
+    pub const LIMIT: usize = 128;
+
+    // The one value of a free slot.
+    pub const FREE: Timeslice = Timeslice {
+        owner: 0,
+        priority: 0,
+        quantum: 0,
+        left: 0,
+        place: Place::Queue,
+    };
+}
+
+// The running thread, the current timeslice, which pays, and the donation count.
+pub enum Running {
+    Nothing,
+    Runs {
+        thread: u8,
+        timeslice: u8,
+        count: u8,
+    },
+}
+
+// What a walk finds. The count is the donation count; the helper is the thread whose helping link was
+// followed last, 0 where there is none. A loop has only its links.
+pub struct Chain {
+    pub looped: bool,
+    pub end: u8,
+    pub links: u8,
+    pub count: u8,
+    pub helper: u8,
+}
+
+// The eight events, each with the operands of its record in an event file.
+pub enum Event {
+    Create {
+        thread: u8,
+        role: Role,
+    },
+    Give {
+        timeslice: u8,
+        thread: u8,
+        priority: u8,
+        quantum: u16,
+    },
+    Call {
+        server: u8,
+    },
+    Reply,
+    Block,
+    Wake {
+        thread: u8,
+    },
+    Charge {
+        units: u16,
+    },
+    Abort {
+        thread: u8,
+    },
+}
