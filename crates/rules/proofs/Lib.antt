@@ -1,2 +1,12 @@
+-- What is proved about the definitions of specs/. Demands.antt has the theorems; MarkedSequences.antt has K1 to K11.
 pub mod Computing
 pub mod MarkedSequences
+pub mod Basics
+pub mod Links
+pub mod Order
+pub mod Soundness
+pub mod Tables
+pub mod Choosing
+pub mod Events
+pub mod Agreement
+pub mod Demands

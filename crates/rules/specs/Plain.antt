@@ -1,7 +1,7 @@
 -- Document 01, "The plain machine": no places, no release, no choice; every live timeslice is judged after every event.
 use Prim.Native.Nat.{ℕ, zero, suc, _+_, _-_}
 use mathlib.Core.List.{List, []}
-use mathlib.Core.Bool.{Bool, true, false, cond}
+use mathlib.Core.Bool.{cond}
 use mathlib.Core.Option.{Option, none, some}
 use lib.ListN.{replicate}
 use lib.Dec.{ltb, eqb}

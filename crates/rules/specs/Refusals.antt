@@ -1,6 +1,5 @@
 -- Document 01, "Refusals, operation by operation", after the refusal 1 of an unsound machine. Both machines refuse by these.
 use Prim.Native.Nat.{ℕ}
-use mathlib.Core.List.{List}
 use mathlib.Core.Bool.{Bool, true, false, cond, not, _||_}
 use lib.Dec.{ltb, eqb}
 use Rattle.rules.specs.declared.Hold.{Hold}

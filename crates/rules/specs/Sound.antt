@@ -135,10 +135,14 @@ threadFree t = not (isServer (t .role)) && isReady (t .hold) && isNobody (t .ser
 abbrev pub sliceFree : Slice → Bool
 sliceFree x = eqb (x .owner) 0 && eqb (x .priority) 0 && eqb (x .quantum) 0 && eqb (x .left) 0
 
+abbrev pub freeThreads : Plain → Bool
+freeThreads p = below limit (λ n. liveAt (p .threads) n || threadFree (threadAt (p .threads) n))
+
+abbrev pub freeSlices : Plain → Bool
+freeSlices p = below limit (λ t. member t (p .order) || sliceFree (sliceAt (p .slices) t))
+
 abbrev pub freeSlots : Plain → Bool
-freeSlots p =
-    below limit (λ n. liveAt (p .threads) n || threadFree (threadAt (p .threads) n))
-    && below limit (λ t. member t (p .order) || sliceFree (sliceAt (p .slices) t))
+freeSlots p = freeThreads p && freeSlices p
 
 -- what soundness says of a machine without its places: the same for both machines
 unfoldable pub shaped : Plain → Bool

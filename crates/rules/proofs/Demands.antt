@@ -1,0 +1,75 @@
+-- THE THEOREMS about document 01's definitions: demands 1 and 3 and the link bound. Every name is defined in specs/ or a few lines above.
+use Prim.Native.Nat.{ℕ, zero, suc, _≤_, _*_, _+_}
+use mathlib.Core.Path.{_≡_, refl, ap, _∙_}
+use mathlib.Core.List.{List, [], _∷_, map}
+use mathlib.Core.Bool.{Bool, true, false}
+use lib.ListN.{length}
+use Rattle.rules.specs.declared.Event.{Event}
+use Rattle.rules.specs.State.{State, Plain, forget, empty, liveThreads}
+use Rattle.rules.specs.Sound.{sound}
+use Rattle.rules.specs.Refusals.{refusal}
+use Rattle.rules.specs.Events.{dispatchAfter, dispatch, offerIf, offer}
+use Rattle.rules.specs.Plain.{emptyPlain, plainOffer}
+use Rattle.rules.specs.Lists.{fits, allFit, run, plainRun, seen, plainSeen, linksOf}
+use Rattle.rules.proofs.Computing.{computing}
+use Rattle.rules.proofs.Basics.Views.{and-true-left, and-true-right}
+use Rattle.rules.proofs.Soundness.Places.{sound-of, of-sound}
+use Rattle.rules.proofs.Agreement.{Agrees, agrees}
+
+-- DEMAND 1, accepted. From every sound machine every accepted event gives a sound machine.
+pub accepted-sound : (e : Event) (s : State) → fits e ≡ true → sound s ≡ true → sound (offer e s .state) ≡ true
+accepted-sound e s f h = of-sound (offer e s .state) (agrees e s (sound-of s h) f .sound)
+
+-- DEMAND 1, refused. On every machine, sound or not, a refused event gives the machine as it was, and no link is followed.
+refused-after : (k : ℕ) (e : Event) (s : State) → (dispatchAfter k e s .refusal ≡ 0 → ⊥) → (dispatchAfter k e s .state ≡ s) × (dispatchAfter k e s .links ≡ 0)
+refused-after zero e s n = absurd (n refl)
+refused-after (suc k) e s n = (refl, refl)
+
+refused-if : (b : Bool) (e : Event) (s : State) → (offerIf b e s .refusal ≡ 0 → ⊥) → (offerIf b e s .state ≡ s) × (offerIf b e s .links ≡ 0)
+unfolding dispatch
+refused-if true e s n = refused-after (refusal e (forget s)) e s n
+refused-if false e s n = (refl, refl)
+
+pub refused-same : (e : Event) (s : State) → (offer e s .refusal ≡ 0 → ⊥) → (offer e s .state ≡ s) × (offer e s .links ≡ 0)
+unfolding offer
+refused-same e s n = refused-if (sound s) e s n
+
+-- DEMAND 3. For every list of events of all kinds, refused ones included, from every sound machine, after each event the refusal
+-- number, the running thread, the paying timeslice, the donation count and all links are the plain machine's.
+seen-same : (e : Event) (s : State) → Agrees s (offer e s) (plainOffer e (forget s)) → seen (offer e s) ≡ plainSeen (plainOffer e (forget s))
+seen-same e s a =
+    λ i. record { refusal = a .refusal i; running = a .plain i .running; links = linksOf (a .plain i .threads) }
+
+pub equal-from : (es : List Event) (s : State) → allFit es ≡ true → sound s ≡ true → map seen (run es s) ≡ map plainSeen (plainRun es (forget s))
+unfolding run plainRun allFit
+equal-from [] s f h = refl
+equal-from (e ∷ es) s f h =
+    let fe = and-true-left (fits e) (allFit es) f in
+    let a = agrees e s (sound-of s h) fe in
+    let rest = equal-from es (offer e s .state) (and-true-right (fits e) (allFit es) f) (accepted-sound e s fe h) in
+    λ i. seen-same e s a i ∷ (rest ∙ ap (λ (p : Plain). map plainSeen (plainRun es p)) (a .plain)) i
+
+-- from the empty machine
+empty-sound : sound empty ≡ true
+unfolding computing
+empty-sound = refl
+
+pub equal : (es : List Event) → allFit es ≡ true → map seen (run es empty) ≡ map plainSeen (plainRun es emptyPlain)
+equal es f = equal-from es empty f empty-sound
+
+-- THE LINK BOUND. In each event at most L × (T + 2) links are followed, L and T counted on the plain machine before it.
+abbrev pub WithinLimits : List Event → State → Plain → Type 0
+WithinLimits [] s p = Unit {0}
+WithinLimits (e ∷ es) s p =
+    (offer e s .links ≤ liveThreads (p .threads) * (length (p .order) + 2)) × WithinLimits es (offer e s .state) (plainOffer e p .plain)
+
+pub within-from : (es : List Event) (s : State) → allFit es ≡ true → sound s ≡ true → WithinLimits es s (forget s)
+unfolding allFit
+within-from [] s f h = tt
+within-from (e ∷ es) s f h =
+    let fe = and-true-left (fits e) (allFit es) f in
+    let a = agrees e s (sound-of s h) fe in
+    (a .links, rw (← a .plain) (within-from es (offer e s .state) (and-true-right (fits e) (allFit es) f) (accepted-sound e s fe h)))
+
+pub within : (es : List Event) → allFit es ≡ true → WithinLimits es empty emptyPlain
+within es f = within-from es empty f empty-sound

@@ -1,0 +1,11 @@
+-- What each event hands to the choice.
+pub mod Hands
+pub mod Joining
+pub mod CreateEvent
+pub mod GiveEvent
+pub mod CallEvent
+pub mod ReplyEvent
+pub mod BlockEvent
+pub mod WakeEvent
+pub mod ChargeEvent
+pub mod AbortEvent

@@ -1,0 +1,150 @@
+-- Give: a new timeslice, last in turn order and in Queue. Nobody stands Behind it, and the others stand as they stood.
+use Prim.Native.Nat.{ℕ, _<_, _≤_, _+_, _*_}
+use mathlib.Core.Path.{_≡_, refl, sym, ap, _∙_, subst}
+use mathlib.Core.List.{List}
+use mathlib.Core.Bool.{true, false, not, _||_}
+use mathlib.Core.Option.{some}
+use native.Mathlib.Omega.{arith}
+use native.Mathlib.Nat.{mul-le-mul-left}
+use lib.ListN.{length, length-set, set}
+use lib.Seq.{getD-set-same, getD-set-other, set-getD}
+use lib.Dec.{eqb}
+use borrow.Author.Tests.{ltb-false, leb-true, le-leb, eqb-false, not-false}
+use Rattle.rules.specs.declared.Place.{Place}
+use Rattle.rules.specs.declared.Place.the-variants.{Queue}
+use Rattle.rules.specs.declared.Running.{Running}
+use Rattle.rules.specs.declared.Running.the-variants.{Nothing, Runs}
+use Rattle.rules.specs.declared.Event.the-variants.{Give}
+use Rattle.rules.specs.Tests.{member}
+use Rattle.rules.specs.State.{Slice, State, forget, limit, freeSlice, freePlace, liveAt, sliceAt, ownerAt, placeAt}
+use Rattle.rules.specs.State.{liveThreads, withPlaces, withTimeslices}
+use Rattle.rules.specs.Timeslices.{given, last}
+use Rattle.rules.specs.Sound.{inRange}
+use Rattle.rules.specs.Refusals.{refusal, aboveLimit, ownsOne}
+use Rattle.rules.specs.Events.{aboveRunning, overtakes, withGiven, give}
+use Rattle.rules.specs.Lists.{fits, byte, twoBytes}
+use Rattle.rules.specs.Plain.{update}
+use Rattle.rules.proofs.Basics.Views.{clash, and4, or-false-left}
+use Rattle.rules.proofs.Basics.Members.{some-none}
+use Rattle.rules.proofs.Order.Orders.{above-last, member-last, member-last-other, distinct-last, length-last}
+use Rattle.rules.proofs.Soundness.Standings.{RunsAt}
+use Rattle.rules.proofs.Soundness.Places.{owner, Settled, runs-on, Sound}
+use Rattle.rules.proofs.Basics.Accepting.{passes}
+use Rattle.rules.proofs.Tables.Slices.{Retimed, owner-kept, stay, retimed-mid, retimed-top}
+use Rattle.rules.proofs.Events.Hands.{Handed, active, linkLimit}
+
+-- the record of a new timeslice: "left = quantum"
+abbrev newSlice : ℕ → ℕ → ℕ → Slice
+newSlice n priority quantum = record { owner = n; priority = priority; quantum = quantum; left = quantum }
+
+-- what an accepted Give says of its operands
+record Fresh (s : State) (t n priority quantum : ℕ) : Type 0 where
+  small : t < limit
+  unlisted : member t (s .order) ≡ false
+  live : liveAt (s .threads) n ≡ true
+  owns-none : (u : ℕ) → member u (s .order) ≡ true → ownerAt (s .slices) u ≡ n → ⊥
+  low : priority ≤ 255
+  short : quantum ≤ 65535
+  least : 1 ≤ quantum
+
+fresh : (s : State) (t n priority quantum : ℕ) → fits (Give t n priority quantum) ≡ true
+    → refusal (Give t n priority quantum) (forget s) ≡ 0 → Fresh s t n priority quantum
+fresh s t n priority quantum f e =
+    let ranges = and4 (byte t) (byte n) (byte priority) (twoBytes quantum) f in
+    let small = passes (aboveLimit t || aboveLimit n) 1 _ e in
+    let unlisted = passes (member t (s .order)) 2 _ (small .1) in
+    let live = passes (not (liveAt (s .threads) n)) 3 _ (unlisted .1) in
+    let owns = passes (ownsOne (forget s) n) 12 _ (live .1) in
+    let nonzero = eqb-false quantum 0 (passes (eqb quantum 0) 11 0 (owns .1) .0) in
+    record {
+      small = omega (arith, ltb-false 127 t (or-false-left (aboveLimit t) (aboveLimit n) (small .0)));
+      unlisted = unlisted .0;
+      live = not-false (liveAt (s .threads) n) (live .0);
+      owns-none =
+          λ u h. eqb-false (ownerAt (s .slices) u) n
+          (some-none (λ t. eqb (ownerAt (s .slices) t) n) (s .order) (owns .0) u h);
+      low = leb-true priority 255 (ranges .2);
+      short = leb-true quantum 65535 (ranges .3);
+      least = omega arith;
+    }
+
+-- the machine with the new timeslice
+module _ {s : State} (x : Sound s) {t n priority quantum : ℕ} (f : Fresh s t n priority quantum) where
+  -- the new table, read at a number
+  given-now : sliceAt (given t n priority quantum (s .slices)) t ≡ newSlice n priority quantum
+  unfolding given
+  given-now = getD-set-same (s .slices) t (newSlice n priority quantum) freeSlice (rw (x .mid .shape .turns .full) (f .small))
+
+  given-others : (u : ℕ) → (u ≡ t → ⊥) → sliceAt (given t n priority quantum (s .slices)) u ≡ sliceAt (s .slices) u
+  unfolding given
+  given-others u d = getD-set-other (s .slices) t u (newSlice n priority quantum) freeSlice d
+
+  given-range : inRange (sliceAt (given t n priority quantum (s .slices)) t) ≡ true
+  given-range =
+      let all : quantum ≤ quantum = omega arith in
+      ap inRange given-now
+      ∙ rw (le-leb priority 255 (f .low), le-leb quantum 65535 (f .short), le-leb 1 quantum (f .least), le-leb quantum quantum all)
+
+  -- the new timeslice is a change of one
+  given-retimed : Retimed (s .threads) (s .slices) (given t n priority quantum (s .slices)) (s .order) (last t (s .order)) t
+  unfolding given
+  given-retimed =
+      let is-owner : ownerAt (given t n priority quantum (s .slices)) t ≡ n = ap (λ (y : Slice). y .owner) given-now in
+      record {
+        full = length-set (s .slices) t (newSlice n priority quantum);
+        once = distinct-last t (s .order) (f .unlisted) (x .mid .shape .turns .once);
+        small = f .small;
+        now = member-last t (s .order);
+        range = given-range;
+        live = rw is-owner (f .live);
+        own = λ u h d e. f .owns-none u h (e ∙ is-owner);
+        listed = λ u d. member-last-other t u (s .order) d;
+        others = given-others;
+        above = above-last (s .slices) t (s .order);
+      }
+
+  -- a free slot had the place Queue already, so only the table and the turn order change
+  queued : placeAt (s .places) t ≡ Queue
+  queued = x .mid .placed .free t (f .unlisted)
+
+  given-state : withGiven t n priority quantum s ≡ withTimeslices (given t n priority quantum (s .slices)) (last t (s .order)) s
+  unfolding withGiven
+  given-state =
+      let places : set (s .places) t Queue ≡ s .places = rw (← queued) (set-getD (s .places) t freePlace) in
+      let timed = withTimeslices (given t n priority quantum (s .slices)) (last t (s .order)) s in
+      ap (λ (ps : List Place). withPlaces ps timed) places
+
+  -- without a choice the current timeslice is still the topmost: the new one does not stand above it
+  given-settled : (running : Running) → s .running ≡ running
+      → aboveRunning (withTimeslices (given t n priority quantum (s .slices)) (last t (s .order)) s) t running ≡ false
+      → Settled (withTimeslices (given t n priority quantum (s .slices)) (last t (s .order)) s)
+  given-settled Nothing e z = clash true refl z
+  given-settled (Runs m c count) e z =
+      let a = active s x m c count e in
+      let other : c ≡ t → ⊥ = λ w. clash (member t (s .order)) (rw w at (a .listed)) (f .unlisted) in
+      runs-on c m count e (retimed-top s given-retimed other (a .topmost) z)
+      (subst (λ (k : ℕ). RunsAt (s .threads) k m count) (sym (owner-kept given-retimed c other)) (a .runs))
+
+  -- one timeslice more: L × (T + 1 + 1)
+  given-links : liveThreads (s .threads) * (length (last t (s .order)) + 1) ≤ linkLimit (forget s)
+  given-links = mul-le-mul-left (liveThreads (s .threads)) (omega (arith, length-last t (s .order)))
+
+-- nobody stands Behind a timeslice that was not listed
+pub give-handed : (s : State) → Sound s → (t n priority quantum : ℕ) → fits (Give t n priority quantum) ≡ true
+    → refusal (Give t n priority quantum) (forget s) ≡ 0
+    → Handed s (give t n priority quantum s) (update (Give t n priority quantum) (forget s))
+unfolding give
+give-handed s x t n priority quantum f e =
+    let g = fresh s t n priority quantum f e in
+    let p = update (Give t n priority quantum) (forget s) in
+    subst (λ (u : State). Handed s (record { state = u; links = 0; chooses = overtakes u (some t) }) p)
+    (sym (given-state x g))
+    (record {
+      mid =
+          retimed-mid (x .mid) (given-retimed x g) (queued x g)
+          (stay (λ u led. clash (member t (s .order)) (led .listed) (g .unlisted)));
+      plain = refl;
+      settled = given-settled x g (s .running) refl;
+      unwalked = λ z. refl;
+      links = λ z. omega (arith, given-links x g);
+    })

@@ -1,0 +1,2 @@
+-- The order of timeslices.
+pub mod Orders

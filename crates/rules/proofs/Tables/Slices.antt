@@ -1,0 +1,159 @@
+-- A change of one timeslice, in the table and in the turn order, leaves every timeslice well placed or released.
+-- Give and Charge are such changes: they have to show what holds of that timeslice now, and what becomes of its followers.
+use Prim.Native.Nat.{ℕ, _<_}
+use mathlib.Core.Path.{_≡_, refl, sym, ap, _∙_, subst}
+use mathlib.Core.List.{List}
+use mathlib.Core.Bool.{Bool, true, false}
+use mathlib.Core.Option.{some}
+use lib.ListN.{length}
+use Rattle.rules.specs.declared.Thread.{Thread}
+use Rattle.rules.specs.declared.Place.{Place}
+use Rattle.rules.specs.declared.Place.the-variants.{Queue, Behind, On, Stalled}
+use Rattle.rules.specs.Tests.{member, distinct}
+use Rattle.rules.specs.State.{Slice, State, limit, liveAt, sliceAt, ownerAt, priorityAt, placeAt, withTimeslices}
+use Rattle.rules.specs.Order.{standsAbove}
+use Rattle.rules.specs.Release.{inQueue, topmostAt}
+use Rattle.rules.specs.Sound.{inRange}
+use Rattle.rules.proofs.Basics.Views.{clash, Same, equal, different, same}
+use Rattle.rules.proofs.Order.Orders.{above-same, above-total, is-none, is-top}
+use Rattle.rules.proofs.Soundness.Shapes.{Turns}
+use Rattle.rules.proofs.Soundness.Standings.{Waits, Stalls}
+use Rattle.rules.proofs.Soundness.Places.{owner, Led, Good, Mid}
+use Rattle.rules.proofs.Choosing.Releases.{Releasable, Ready, selected, kept, none-placed}
+use Rattle.rules.proofs.Choosing.Tops.{queue-top}
+use Rattle.rules.proofs.Choosing.Changes.{nowhere}
+
+-- timeslice t is changed or new: it is listed and in range, with a live owner of its own; the others keep records and order
+pub record Retimed (ts : List Thread) (ss ss′ : List Slice) (order order′ : List ℕ) (t : ℕ) : Type 0 where
+  pub full : length ss′ ≡ length ss
+  pub once : distinct order′ ≡ true
+  pub small : t < limit
+  pub now : member t order′ ≡ true
+  pub range : inRange (sliceAt ss′ t) ≡ true
+  pub live : liveAt ts (ownerAt ss′ t) ≡ true
+  pub own : (u : ℕ) → member u order ≡ true → (u ≡ t → ⊥) → ownerAt ss u ≡ ownerAt ss′ t → ⊥
+  pub listed : (u : ℕ) → (u ≡ t → ⊥) → member u order′ ≡ member u order
+  pub others : (u : ℕ) → (u ≡ t → ⊥) → sliceAt ss′ u ≡ sliceAt ss u
+  pub above : (a b : ℕ) → (a ≡ t → ⊥) → (b ≡ t → ⊥) → standsAbove ss order′ a b ≡ standsAbove ss order a b
+
+module _ {ts : List Thread} {ss ss′ : List Slice} {order order′ : List ℕ} {t : ℕ} (r : Retimed ts ss ss′ order order′ t) where
+  -- the others keep their owners
+  pub owner-kept : (u : ℕ) → (u ≡ t → ⊥) → ownerAt ss′ u ≡ ownerAt ss u
+  owner-kept u n = ap (λ (x : Slice). x .owner) (r .others u n)
+
+  -- two others stand as they stood
+  above-kept : (a b : ℕ) → (a ≡ t → ⊥) → (b ≡ t → ⊥) → standsAbove ss′ order′ a b ≡ standsAbove ss order a b
+  above-kept a b na nb =
+      let priority : (u : ℕ) → (u ≡ t → ⊥) → priorityAt ss′ u ≡ priorityAt ss u =
+      λ u n. ap (λ (x : Slice). x .priority) (r .others u n) in
+      above-same ss′ ss order′ a b (priority a na) (priority b nb) ∙ r .above a b na nb
+
+  -- whoever is listed now is t, or was listed before
+  each-now : (P : ℕ → Type 0) → P t → ((u : ℕ) → (u ≡ t → ⊥) → member u order ≡ true → P u)
+      → (u : ℕ) → member u order′ ≡ true → P u
+  each-now P p q u h = by (same u t)
+    where
+      by : Same u t → P u
+      by (equal e _) = subst P (sym e) p
+      by (different n _) = q u n (sym (r .listed u n) ∙ h)
+
+  -- whoever is not listed now was not listed before
+  unlisted : (u : ℕ) → member u order′ ≡ false → (u ≡ t → ⊥) × (member u order ≡ false)
+  unlisted u h =
+      let n : u ≡ t → ⊥ = λ e. clash (member t order′) (r .now) (rw e at h) in
+      (n, sym (r .listed u n) ∙ h)
+
+  -- owners stay distinct
+  one-owner : Turns ts ss order → (a b : ℕ) → member a order′ ≡ true → member b order′ ≡ true → ownerAt ss′ a ≡ ownerAt ss′ b
+      → Same a t → Same b t → a ≡ b
+  one-owner x a b ha hb e (equal p _) (equal q _) = p ∙ sym q
+  one-owner x a b ha hb e (equal p _) (different n _) =
+      absurd (r .own b (sym (r .listed b n) ∙ hb) n (sym (owner-kept b n) ∙ sym e ∙ ap (ownerAt ss′) p))
+  one-owner x a b ha hb e (different n _) (equal q _) =
+      absurd (r .own a (sym (r .listed a n) ∙ ha) n (sym (owner-kept a n) ∙ e ∙ ap (ownerAt ss′) q))
+  one-owner x a b ha hb e (different n _) (different m _) =
+      x .owners a b (sym (r .listed a n) ∙ ha) (sym (r .listed b m) ∙ hb) (sym (owner-kept a n) ∙ e ∙ owner-kept b m)
+
+  -- the turn order holds the live timeslices once each, in range, with live and distinct owners
+  retimed-turns : Turns ts ss order → Turns ts ss′ order′
+  retimed-turns x =
+      record {
+        full = r .full ∙ x .full;
+        small = each-now (λ u. u < limit) (r .small) (λ u n h. x .small u h);
+        once = r .once;
+        owner =
+            each-now (λ u. liveAt ts (ownerAt ss′ u) ≡ true) (r .live)
+            (λ u n h. ap (liveAt ts) (owner-kept u n) ∙ x .owner u h);
+        owners = λ a b ha hb e. one-owner x a b ha hb e (same a t) (same b t);
+        range = each-now (λ u. inRange (sliceAt ss′ u) ≡ true) (r .range) (λ u n h. ap inRange (r .others u n) ∙ x .range u h);
+        free = λ u h. let z = unlisted u h in r .others u (z .0) ∙ x .free u (z .1);
+      }
+
+-- what happens to the followers of t: they are released, or t still stands above them
+pub data Followers (at : Place → Bool) (s : State) (ss′ : List Slice) (order′ : List ℕ) (t : ℕ) : Type 0 where
+  freed : at (Behind t) ≡ true → Followers at s ss′ order′ t
+  stay : ((u : ℕ) → Led s u t → standsAbove ss′ order′ t u ≡ true) → Followers at s ss′ order′ t
+
+module _ {at : Place → Bool} {s : State} {ss′ : List Slice} {order′ : List ℕ} {t : ℕ}
+    (x : Mid s) (r : Retimed (s .threads) (s .slices) ss′ (s .order) order′ t) (queued : placeAt (s .places) t ≡ Queue)
+    (f : Followers at s ss′ order′ t) where
+  -- a follower of t
+  follower : (u : ℕ) → placeAt (s .places) u ≡ Behind t → Led s u t → Followers at s ss′ order′ t
+      → Ready at (withTimeslices ss′ order′ s) u
+  follower u e g (freed k) = selected (rw e k)
+  follower u e g (stay a) = kept (rw e (record { listed = r .now; queued = queued; above = a u g }))
+
+  -- a follower of another
+  behind-other : (u q : ℕ) → (u ≡ t → ⊥) → (q ≡ t → ⊥) → Led s u q → Led (withTimeslices ss′ order′ s) u q
+  behind-other u q nu nq g =
+      record { listed = r .listed q nq ∙ g .listed; queued = g .queued; above = above-kept r q u nq nu ∙ g .above }
+
+  -- everybody other than t is released or well placed, and t is in Queue
+  ready : (u : ℕ) → (u ≡ t → ⊥) → (p : Place) → placeAt (s .places) u ≡ p → Good s u p → Ready at (withTimeslices ss′ order′ s) u
+  ready u n Queue e g = kept (rw e tt)
+  ready u n (Behind q) e g = by (same q t)
+    where
+      by : Same q t → Ready at (withTimeslices ss′ order′ s) u
+      by (equal z _) = follower u (e ∙ ap Behind z) (subst (λ (k : ℕ). Led s u k) z g) f
+      by (different d _) = kept (rw e (behind-other u q n d g))
+  ready u n (On m) e g = kept (rw e (subst (λ (k : ℕ). Waits (s .threads) k m) (sym (owner-kept r u n)) g))
+  ready u n Stalled e g = kept (rw e (subst (λ (k : ℕ). Stalls (s .threads) k) (sym (owner-kept r u n)) g))
+
+  pub retimed-releasable : at Queue ≡ false → Releasable at (withTimeslices ss′ order′ s)
+  retimed-releasable q =
+      record {
+        shape = record { sane = x .shape .sane; turns = retimed-turns r (x .shape .turns) };
+        full = x .placed .full;
+        queue = q;
+        each =
+            each-now r (λ u. Ready at (withTimeslices ss′ order′ s) u) (kept (rw queued tt))
+            (λ u n h. ready u n (placeAt (s .places) u) refl (x .placed .good u h));
+        free = λ u h. x .placed .free u (unlisted r u h .1);
+      }
+
+-- where nobody has to be released, the machine is midway as it stands
+pub retimed-mid : {s : State} {ss′ : List Slice} {order′ : List ℕ} {t : ℕ} → Mid s
+    → Retimed (s .threads) (s .slices) ss′ (s .order) order′ t → placeAt (s .places) t ≡ Queue → Followers nowhere s ss′ order′ t
+    → Mid (withTimeslices ss′ order′ s)
+retimed-mid {s} {ss′} {order′} x r q f =
+    let y = retimed-releasable x r q f refl in
+    record {
+      shape = y .shape;
+      placed = none-placed nowhere (withTimeslices ss′ order′ s) y (is-none ss′ (λ t. false) order′ (λ u h. refl));
+    }
+
+-- a topmost in Queue that t does not overtake is still the topmost
+pub retimed-top : (s : State) {ss′ : List Slice} {order′ : List ℕ} {t c : ℕ}
+    → Retimed (s .threads) (s .slices) ss′ (s .order) order′ t → (c ≡ t → ⊥) → topmostAt inQueue s ≡ some c
+    → standsAbove ss′ order′ t c ≡ false → topmostAt inQueue (withTimeslices ss′ order′ s) ≡ some c
+retimed-top s {ss′} {order′} {t} {c} r other e under =
+    let top = queue-top s c e in
+    is-top ss′ (λ u. inQueue (placeAt (s .places) u)) order′ c
+    (record {
+      listed = r .listed c other ∙ top .listed;
+      taken = top .taken;
+      above =
+          each-now r (λ u. inQueue (placeAt (s .places) u) ≡ true → (u ≡ c → ⊥) → standsAbove ss′ order′ c u ≡ true)
+          (λ q d. above-total ss′ order′ t c (r .now) d under)
+          (λ u n h q d. above-kept r c u other n ∙ top .above u h q d);
+    })
