@@ -1,0 +1,87 @@
+#!/usr/bin/env bash
+# compare.sh KEY_PROGRAM [SEED] [COUNT]
+#
+# Makes event files of every kind and compares, byte for byte, the key that KEY_PROGRAM prints with that
+# of oracle/key.rs; and oracle/plain.rs with oracle/key.rs without its last column. COUNT is the number of
+# lively files; the other kinds go with it. The same seed gives the same files.
+#
+# Exit status: 0 all equal, 1 a difference, 2 wrong use or no time left (COMPARE_SECONDS, default 60).
+set -euo pipefail
+export LC_ALL=C
+[ $# -ge 1 ] || { echo "compare.sh KEY_PROGRAM [SEED] [COUNT]" >&2; exit 2; }
+here=$(cd "$(dirname "$0")" && pwd)
+program=$(realpath "$1")
+seed=${2:-20261115}
+count=${3:-900}
+limit=${COMPARE_SECONDS:-60}
+work=$(mktemp -d)
+trap 'rm -rf "$work"' EXIT
+cd "$work"
+mkdir in want plain short got
+
+for name in key plain make; do
+    rustc --edition 2021 -O -o "$work/$name.run" "$here/oracle/$name.rs"
+done
+./make.run "$seed" "$count" in lively
+./make.run "$seed" $((count / 5 + 1)) in chain
+./make.run "$seed" $((count / 5 + 30)) in damaged
+for kind in full small chain16 chain64 chain127; do
+    ./make.run "$seed" 1 in $kind
+done
+
+# The two outside programs against each other. The plain machine does not define the last column.
+find in -type f -print0 | sort -z | xargs -0 ./key.run -o want
+find in -type f -print0 | sort -z | xargs -0 ./plain.run -o plain
+cp want/* short/
+find short -type f -print0 | xargs -0 sed -i -s '/^file /!s/ [0-9]*$//'
+
+# Shows the first line that differs in two keys, and the keys up to there; keeps the event file.
+differ() {
+    local file=$1 one=$2 other=$3 one_name=$4 other_name=$5 line from kept
+    kept=$(mktemp "${TMPDIR:-/tmp}/differs.XXXXXX")
+    cp "in/$file" "$kept"
+    line=$({ cmp "$one" "$other" 2>&1 || true; } | sed -n 's/.*line \([0-9]*\)$/\1/p')
+    line=${line:-1}
+    from=$((line > 20 ? line - 20 : 1))
+    echo "$file (seed $seed) differs first in line $line; the event file is kept as $kept"
+    echo "$one_name, lines $from to $((line + 1)):"
+    sed -n "$from,$((line + 1))p" "$one"
+    echo "$other_name, lines $from to $((line + 1)):"
+    sed -n "$from,$((line + 1))p" "$other"
+}
+
+names=$(ls in)
+for f in $names; do
+    if ! cmp -s "short/$f" "plain/$f"; then
+        echo "the two outside programs disagree: a question about document 01"
+        differ "$f" "short/$f" "plain/$f" "key.rs without links" "plain.rs"
+        exit 1
+    fi
+done
+
+# One run of KEY_PROGRAM for each file. A signal or 10 seconds without an end count as a difference.
+total=$(ls in | wc -l)
+compared=0
+try() {
+    local file=$1 status=0
+    timeout 10 "$program" > "got/$file" || status=$?
+    if [ $status -ge 124 ] || ! cmp -s "got/$file" "want/$file"; then
+        [ $status -lt 124 ] || echo "$program ended with status $status"
+        differ "$file" "got/$file" "want/$file" "$program" "key.rs"
+        exit 1
+    fi
+}
+for f in $names; do
+    if [ $SECONDS -ge "$limit" ]; then
+        echo "$compared of $total files compared, 0 differ, but no time left after $SECONDS s"
+        exit 2
+    fi
+    try "$f" < "in/$f"
+    compared=$((compared + 1))
+done
+
+# Standard input may come in pieces: 2 bytes, 200 bytes, the rest.
+for f in full-00000 lively-00000 chain-00000; do
+    try "$f" < <(head -c 2 "in/$f"; sleep 0.1; head -c 202 "in/$f" | tail -c +3; sleep 0.1; tail -c +203 "in/$f")
+done
+echo "$compared files compared, 0 differ"
