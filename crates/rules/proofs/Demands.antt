@@ -1,16 +1,18 @@
 -- THE THEOREMS about document 01's definitions: demands 1 and 3 and the link bound. Every name is defined in specs/ or a few lines above.
 use Prim.Native.Nat.{ℕ, zero, suc, _≤_, _*_, _+_}
-use mathlib.Core.Path.{_≡_, refl, ap, _∙_}
-use mathlib.Core.List.{List, [], _∷_, map}
+use mathlib.Core.Path.{_≡_, refl, sym, ap, _∙_}
+use mathlib.Core.List.{List, [], _∷_, _++_, map}
 use mathlib.Core.Bool.{Bool, true, false}
 use lib.ListN.{length}
 use Rattle.rules.specs.declared.Event.{Event}
 use Rattle.rules.specs.State.{State, Plain, forget, empty, liveThreads}
 use Rattle.rules.specs.Sound.{sound}
 use Rattle.rules.specs.Refusals.{refusal}
-use Rattle.rules.specs.Events.{dispatchAfter, dispatch, offerIf, offer}
-use Rattle.rules.specs.Plain.{emptyPlain, plainOffer}
-use Rattle.rules.specs.Lists.{fits, allFit, run, plainRun, seen, plainSeen, linksOf}
+use Rattle.rules.specs.Events.{Answered, dispatchAfter, dispatch, offerIf, offer}
+use Rattle.rules.specs.Plain.{PlainAnswered, emptyPlain, plainOffer}
+use Rattle.rules.specs.Lists.{fits, allFit, run, plainRun, Seen, seen, plainSeen, linksOf}
+use Rattle.rules.specs.EventFile.{fileRefusal, eventsOf}
+use Rattle.rules.specs.Key.{bytes, columns, shortLines, shortKeyAfter, shortKey, plainLines, plainKeyAfter, plainKey}
 use Rattle.rules.proofs.Computing.{computing}
 use Rattle.rules.proofs.Basics.Views.{and-true-left, and-true-right}
 use Rattle.rules.proofs.Soundness.Places.{sound-of, of-sound}
@@ -73,3 +75,29 @@ within-from (e ∷ es) s f h =
 
 pub within : (es : List Event) → allFit es ≡ true → WithinLimits es empty emptyPlain
 within es f = within-from es empty f empty-sound
+
+-- THE KEY'S COLUMNS. Every column of the key but the last is the plain machine's, for every file whose events fit (as those read from bytes do).
+seenLines : ℕ → List Seen → List ℕ
+seenLines number [] = []
+seenLines number (a ∷ rest) = columns number (a .refusal) (a .running) ++ bytes "\n" ++ seenLines (number + 1) rest
+
+short-lines : (number : ℕ) (l : List Answered) → shortLines number l ≡ seenLines number (map seen l)
+unfolding shortLines seenLines
+short-lines number [] = refl
+short-lines number (a ∷ rest) = rw (short-lines (number + 1) rest)
+
+plain-lines : (number : ℕ) (l : List PlainAnswered) → plainLines number l ≡ seenLines number (map plainSeen l)
+unfolding plainLines seenLines
+plain-lines number [] = refl
+plain-lines number (a ∷ rest) = rw (plain-lines (number + 1) rest)
+
+columns-after : (k : ℕ) (file : List ℕ) → allFit (eventsOf file) ≡ true → shortKeyAfter k file ≡ plainKeyAfter k file
+columns-after zero file f =
+    short-lines 1 (run (eventsOf file) empty)
+    ∙ ap (seenLines 1) (equal (eventsOf file) f)
+    ∙ sym (plain-lines 1 (plainRun (eventsOf file) emptyPlain))
+columns-after (suc k) file f = refl
+
+pub columns-plain : (file : List ℕ) → allFit (eventsOf file) ≡ true → shortKey file ≡ plainKey file
+unfolding shortKey plainKey
+columns-plain file f = columns-after (fileRefusal file) file f

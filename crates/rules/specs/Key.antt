@@ -65,7 +65,19 @@ keyAfter (suc number) file = fileLine (suc number)
 unfoldable pub key : List ℕ → List ℕ
 key file = keyAfter (fileRefusal file) file
 
--- the plain machine's key: the same lines without their last column
+-- the key without its last column
+unfoldable pub shortLines : ℕ → List Answered → List ℕ
+shortLines number [] = []
+shortLines number (a ∷ rest) = columns number (a .refusal) (a .state .running) ++ bytes "\n" ++ shortLines (number + 1) rest
+
+abbrev pub shortKeyAfter : ℕ → List ℕ → List ℕ
+shortKeyAfter zero file = shortLines 1 (run (eventsOf file) empty)
+shortKeyAfter (suc number) file = fileLine (suc number)
+
+unfoldable pub shortKey : List ℕ → List ℕ
+shortKey file = shortKeyAfter (fileRefusal file) file
+
+-- the plain machine's key, which has no last column
 unfoldable pub plainLines : ℕ → List PlainAnswered → List ℕ
 plainLines number [] = []
 plainLines number (a ∷ rest) = columns number (a .refusal) (a .plain .running) ++ bytes "\n" ++ plainLines (number + 1) rest

@@ -1,16 +1,25 @@
 -- Document 01 as definitions that compute, a file for each of its sections, in its order and words. This is what a reader must believe.
 pub mod Tests
+-- What belongs to the machine
 pub mod State
+pub mod Holds
 pub mod Order
+-- The walk
 pub mod Walk
+-- Release and choice
 pub mod Threads
 pub mod Release
 pub mod Choice
-pub mod Sound
-pub mod Refusals
+-- The plain machine
+pub mod Plain
+-- Events
 pub mod Timeslices
 pub mod Events
-pub mod Plain
 pub mod Lists
+-- A sound machine
+pub mod Sound
+-- Refusals, operation by operation
+pub mod Refusals
+-- Event file and key
 pub mod EventFile
 pub mod Key

@@ -1,14 +1,13 @@
 -- Document 01, "Refusals, operation by operation", after the refusal 1 of an unsound machine. Both machines refuse by these.
 use Prim.Native.Nat.{ℕ}
-use mathlib.Core.Bool.{Bool, true, false, cond, not, _||_}
+use mathlib.Core.Bool.{Bool, cond, not, _||_}
 use lib.Dec.{ltb, eqb}
-use Rattle.rules.specs.declared.Hold.{Hold}
-use Rattle.rules.specs.declared.Hold.the-variants.{Ready, Idle, Blocked, Calling, Helping}
 use Rattle.rules.specs.declared.Event.{Event}
 use Rattle.rules.specs.declared.Event.the-variants.{Create, Give, Call, Reply, Block, Wake, Charge, Abort}
 use Rattle.rules.specs.Tests.{member, some-of}
 use Rattle.rules.specs.State.{Plain, holdAt, liveAt, ownerAt, sliceAt, nothingRuns, runningThread, currentTimeslice}
-use Rattle.rules.specs.Sound.{isBlocked, serverAt}
+pub use Rattle.rules.specs.Holds.{linked}
+use Rattle.rules.specs.Holds.{isBlocked, serverAt}
 
 -- the first fitting number; 0 for none
 infixr 20 _gives_else_
@@ -20,13 +19,6 @@ aboveLimit n = ltb 127 n
 
 abbrev pub ownsOne : Plain → ℕ → Bool
 ownsOne p n = some-of (λ t. eqb (ownerAt (p .slices) t) n) (p .order)
-
-abbrev pub linked : Hold → Bool
-linked Ready = false
-linked Idle = false
-linked Blocked = false
-linked (Calling s) = true
-linked (Helping s) = true
 
 abbrev pub refusal : Event → Plain → ℕ
 refusal (Create n r) p = aboveLimit n gives 2 else liveAt (p .threads) n gives 3 else 0

@@ -5,8 +5,6 @@ use mathlib.Core.Bool.{Bool, true, false, not, _&&_, _||_}
 use mathlib.Core.Option.{Option, none, some}
 use lib.ListN.{length}
 use lib.Dec.{leb, ltb, eqb}
-use Rattle.rules.specs.declared.Role.{Role}
-use Rattle.rules.specs.declared.Role.the-variants.{Client, Server}
 use Rattle.rules.specs.declared.Hold.{Hold}
 use Rattle.rules.specs.declared.Hold.the-variants.{Ready, Idle, Blocked, Calling, Helping}
 use Rattle.rules.specs.declared.Service.{Service}
@@ -19,57 +17,10 @@ use Rattle.rules.specs.declared.Running.the-variants.{Nothing, Runs}
 use Rattle.rules.specs.declared.Chain.{Chain}
 use Rattle.rules.specs.Tests.{member, distinct, all, below, implies, agree}
 use Rattle.rules.specs.State.{Slice, State, Plain, forget, limit, threadAt, holdAt, serviceAt, liveAt, sliceAt, ownerAt, placeAt}
+pub use Rattle.rules.specs.Holds.{isServer, isReady, isIdle, isBlocked, isCalling, isNobody, isServing, serverAt}
 use Rattle.rules.specs.Order.{standsAbove}
 use Rattle.rules.specs.Walk.{chainOf, verdict, Verdict, runs, retries, waits, stalls}
 use Rattle.rules.specs.Release.{inQueue, topmostAt}
-
--- what a record holds
-abbrev pub isServer : Role → Bool
-isServer Client = false
-isServer Server = true
-
-abbrev pub isReady : Hold → Bool
-isReady Ready = true
-isReady Idle = false
-isReady Blocked = false
-isReady (Calling s) = false
-isReady (Helping s) = false
-
-abbrev pub isIdle : Hold → Bool
-isIdle Ready = false
-isIdle Idle = true
-isIdle Blocked = false
-isIdle (Calling s) = false
-isIdle (Helping s) = false
-
-abbrev pub isBlocked : Hold → Bool
-isBlocked Ready = false
-isBlocked Idle = false
-isBlocked Blocked = true
-isBlocked (Calling s) = false
-isBlocked (Helping s) = false
-
--- Calling that server
-abbrev pub isCalling : ℕ → Hold → Bool
-isCalling n Ready = false
-isCalling n Idle = false
-isCalling n Blocked = false
-isCalling n (Calling s) = eqb s n
-isCalling n (Helping s) = false
-
-abbrev pub isNobody : Service → Bool
-isNobody Nobody = true
-isNobody (Serving n) = false
-isNobody Orphan = false
-
--- serving that caller
-abbrev pub isServing : ℕ → Service → Bool
-isServing n Nobody = false
-isServing n (Serving m) = eqb m n
-isServing n Orphan = false
-
-abbrev pub serverAt : List Thread → ℕ → Bool
-serverAt ts n = isServer (threadAt ts n .role)
 
 -- the tables have a slot for each number
 abbrev pub tablesFull : Plain → Bool

@@ -44,7 +44,6 @@ pub record Accepted (s : State) (o : Outcome) (p : Plain) : Type 0 where
 pub accepts : (s : State) (m : Midway) (p : Plain) → Handed s m p → Accepted s (settle m) p
 accepts s m p h = by (m .chooses) refl
   where
-
     chose : m .chooses ≡ true → Chosen (forget (m .state)) (unparkedIn (m .state)) (m .links) (choose (record { state = m .state; links = m .links }))
         → Accepted s (choose (record { state = m .state; links = m .links })) p
     chose e c =
