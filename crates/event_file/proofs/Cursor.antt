@@ -1,0 +1,76 @@
+-- Opening and stepping: each answer of the code is the definition's.
+use Prim.Native.Nat.{ℕ, zero, suc, _+_, _<_, _≤_}
+use mathlib.Core.Path.{_≡_, refl, ap, sym, _∙_}
+use mathlib.Core.List.{List}
+use mathlib.Core.Option.{Option, none, some}
+use native.Mathlib.Omega.{arith}
+use lib.ListN.{length, getD, drop}
+use borrow.Author.Tests.{eq-eqb, ne-eqb, le-ltb, lt-ltb}
+use Rattle.rules.specs.declared.Event.{Event}
+use Rattle.rules.specs.Refusals.{_gives_else_}
+use Rattle.rules.specs.EventFile.{recordAt, recordsIn, isNone, headRefusal, fileRefusalAfter, fileRefusal, openedAs, opened}
+use Rattle.rules.specs.EventFile.{end, bad, steppedTo, stepped}
+use Rattle.rules.specs.EventFile as file
+use Rattle.event_file.specs.declared.reader.Stepped.{Stepped}
+use Rattle.event_file.specs.Answers.{foundOf, movedTo, shownFound}
+use Rattle.event_file.proofs.Reading.{stepAt}
+
+-- the head's refusal comes first
+head-first : (n : ℕ) (file : List ℕ) → (n ≡ 0 → ⊥) → n ≡ fileRefusalAfter n file
+head-first zero file h = absurd (h refl)
+head-first (suc n) file h = refl
+
+pub refused-by-head : (file : List ℕ) (n : ℕ) → n ≡ headRefusal file → (n ≡ 0 → ⊥) → n ≡ fileRefusal file
+unfolding fileRefusal
+refused-by-head file n e h = head-first n file h ∙ ap (λ (k : ℕ). fileRefusalAfter k file) e
+
+pub refused-by-records :
+    (file : List ℕ) (n r : ℕ) → n ≡ headRefusal file → n ≡ 0 → r ≡ (isNone (recordsIn file) gives 16 else 0) → r ≡ fileRefusal file
+unfolding fileRefusal
+refused-by-records file n r e h records = records ∙ ap (λ (k : ℕ). fileRefusalAfter k file) (sym h ∙ e)
+
+-- what opening answers to a file's refusal
+refused-opens : (n : ℕ) → (n ≡ 0 → ⊥) → record { refusal = n; offset = 0 } ≡ openedAs n
+refused-opens zero h = absurd (h refl)
+refused-opens (suc n) h = refl
+
+pub opened-refused : (file : List ℕ) (n : ℕ) → n ≡ fileRefusal file → (n ≡ 0 → ⊥) → record { refusal = n; offset = 0 } ≡ opened file
+unfolding opened
+opened-refused file n e h = refused-opens n h ∙ ap openedAs e
+
+pub opened-accepted : (file : List ℕ) (n : ℕ) → n ≡ fileRefusal file → n ≡ 0 → record { refusal = 0; offset = 5 } ≡ opened file
+unfolding opened
+opened-accepted file n e h = ap openedAs (sym h ∙ e)
+
+-- a step outside the records: below 5, past the end, at the end
+pub stepped-low : (file : List ℕ) (at : ℕ) → at < 5 → record { found = bad; offset = at } ≡ stepped file at
+unfolding stepped
+stepped-low file at h = simp (lt-ltb _ _ h)
+
+pub stepped-past : (file : List ℕ) (at : ℕ) → 5 ≤ at → length file < at → record { found = bad; offset = at } ≡ stepped file at
+unfolding stepped
+stepped-past file at low h = simp (le-ltb _ _ low, lt-ltb _ _ h)
+
+pub stepped-end : (file : List ℕ) (at : ℕ) → 5 ≤ at → at ≡ length file → record { found = end; offset = at } ≡ stepped file at
+unfolding stepped
+stepped-end file at low e =
+    let h : at ≤ length file = omega arith in
+    simp (le-ltb _ _ low, le-ltb _ _ h, eq-eqb _ _ e)
+
+-- the answer of the code, as document 01 has it
+abbrev pub shown : Stepped → file.Stepped
+shown r = record { found = shownFound (r .found); offset = r .offset }
+
+shown-moved : (o : Option Event) (at next : ℕ) → shown (movedTo (foundOf o) at next) ≡ steppedTo at next o
+shown-moved none at next = refl
+shown-moved (some e) at next = refl
+
+pub stepped-record :
+    (file : List ℕ) (at : ℕ) (r : Stepped) → 5 ≤ at → at < length file → r ≡ stepAt file at → shown r ≡ stepped file at
+unfolding stepped
+stepped-record file at r low h e =
+    let within : at ≤ length file = omega arith in
+    let inside : at ≡ length file → ⊥ = omega arith in
+    ap shown e
+    ∙ shown-moved (recordAt (drop at file)) at (at + 1 + getD file at 0)
+    ∙ simp (le-ltb _ _ low, le-ltb _ _ within, ne-eqb _ _ inside)

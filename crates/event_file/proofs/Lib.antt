@@ -1,0 +1,4 @@
+-- Laws of the definitions that the functions' proofs cite, then the theorems.
+pub mod Shapes
+pub mod Reading
+pub mod Cursor

@@ -1,0 +1,14 @@
+use denote.Ref.{now}
+use Rattle.rules.specs.declared.Event.the-variants.{Reply}
+use Rattle.event_file.proofs.Shapes.{fit, unfit, noOperand-is}
+use Rattle.event_file.proofs.reader.operands.reply.Statement.{statement}
+use Rattle.event_file.proofs.reader.operands.reply.Tie as tie
+
+returns : tie.Need-returns
+returns c = unfit _ _ _ _ (noOperand-is Reply (now (c .before .args .operands))) (c .if1 .taken)
+
+returns-2 : tie.Need-returns-2
+returns-2 c = fit _ _ _ _ (noOperand-is Reply (now (c .before .args .operands))) (c .if1 .left)
+
+pub reply-spec : {M : Type 1} → statement M
+reply-spec = tie.close (tie.spec returns returns-2)
