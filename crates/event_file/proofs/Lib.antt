@@ -2,3 +2,5 @@
 pub mod Shapes
 pub mod Reading
 pub mod Cursor
+pub mod Accepting
+pub mod Writing

@@ -2,7 +2,7 @@
 ghost use mathlib.Core.Path.{_≡_};
 ghost use Prim.Native.Nat.{_≤_, _+_};
 ghost use lib.ListN.{length};
-ghost use Rattle.rules.specs.EventFile.{wordOf, lengthField};
+ghost use Rattle.rules.specs.EventFile.{wordOf, highByte, lowByte, lengthField};
 
 pub fn wide(byte: u8) -> usize
     ensures { λ r. ⌜ r ≡ byte ⌝ }
@@ -26,4 +26,16 @@ pub fn length_field(file: &[u8]) -> usize
     let high = word(file[0], file[1]);
     let low = word(file[2], file[3]);
     (high as usize) * 65536 + (low as usize)
+}
+
+pub fn high_byte(n: u16) -> u8
+    ensures { λ r. ⌜ r ≡ highByte n ⌝ }
+{
+    (n / 256) as u8
+}
+
+pub fn low_byte(n: u16) -> u8
+    ensures { λ r. ⌜ r ≡ lowByte n ⌝ }
+{
+    (n % 256) as u8
 }

@@ -1,0 +1,81 @@
+use Prim.Native.Nat.{ℕ, _+_, _-_, _≤_}
+use mathlib.Core.List.{List}
+use native.Mathlib.Omega.{arith}
+use lib.ListN.{length}
+use lib.Seq.{sets, length-sets}
+use Rattle.event_file.proofs.Accepting.{Addable, addable, addable-five}
+use denote.Ref.{now}
+use mathlib.Core.Path.{ap, sym, _∙_}
+use Rattle.rules.specs.EventFile.{Written, recordOf, fourBytes}
+use Rattle.event_file.proofs.Writing.{appended-accepted, appended-refused}
+use borrow.Author.Needs.{needs}
+use Rattle.event_file.proofs.writer.append.Statement.{statement}
+use Rattle.event_file.proofs.writer.append.Tie as tie
+
+append-refusal-requires : tie.Need-append-refusal-requires
+append-refusal-requires c κs = search needs
+
+same-length : tie.Need-same-length
+same-length c = search needs
+
+returns : tie.Need-returns
+returns c =
+    let e = appended-refused (now (c .before .before .before .before .args .buffer)) (c .before .before .before .before .args .filled) (c .before .before .before .before .args .event) _ (c .before .append-refusal .ensures) (c .if1 .taken) in
+    (ap (λ (w : Written). w .refusal) e, ap (λ (w : Written). w .filled) e, ap (λ (w : Written). w .buffer) e)
+
+record-length-requires : tie.Need-record-length-requires
+record-length-requires c κs = search needs
+
+-- where it is not refused, the record may be added
+may-add :
+    (c : tie.Else1) →
+    Addable (now (c .before .before .before .before .args .buffer)) (c .before .before .before .before .args .filled) (c .before .before .before .before .args .event)
+may-add c = addable _ _ _ (sym (c .before .append-refusal .ensures) ∙ c .if1 .left)
+
+five : (c : tie.Else1) → 5 ≤ c .before .before .before .before .args .filled
+five c = addable-five _ _ _ (may-add c)
+
+add-after : tie.Need-add-after
+add-after c = omega (arith, may-add (c .before) .small, c .record-length .ensures .0)
+
+put-record-requires : tie.Need-put-record-requires
+put-record-requires c κs = may-add (c .before .before) .room
+
+sub-put-length : tie.Need-sub-put-length
+sub-put-length c = omega (arith, five (c .before .before .before .before .before .before))
+
+put-length-requires : tie.Need-put-length-requires
+put-length-requires c κs =
+    let at-else = c .before .before .before .before .before .before in
+    let kept-length = ap length (c .before .before .before .put-record .ensures) ∙ length-sets _ _ (recordOf (at-else .before .before .before .before .args .event)) in
+    (omega (arith, kept-length, five at-else, may-add at-else .room), omega (arith, may-add at-else .small, c .before .before .before .before .before .record-length .ensures .0))
+
+same-length-2 : tie.Need-same-length-2
+same-length-2 c = search needs
+
+returns-2 : tie.Need-returns-2
+returns-2 c =
+    let at-else = c .before .before .before .before .before .before .before .before .before in
+    let at-start = at-else .before .before .before .before in
+    let stored =
+    c .before .before .put-length .ensures
+    ∙ ap (λ (l : List ℕ). sets l 0 (fourBytes (at-start .args .filled + c .before .before .before .before .before .before .before .before .record-length .result - 4))) (c .before .before .before .before .before .before .put-record .ensures) in
+    let e =
+    appended-accepted (now (at-start .args .buffer)) _ (at-start .args .filled) (at-start .args .event) _ _
+    (at-else .before .append-refusal .ensures) (at-else .if1 .left) (c .before .before .before .before .before .before .before .before .record-length .ensures .0) stored in
+    (ap (λ (w : Written). w .refusal) e, ap (λ (w : Written). w .filled) e, ap (λ (w : Written). w .buffer) e)
+
+pub append-spec : {M : Type 1} → statement M
+append-spec =
+    tie.close
+    (tie.spec
+    append-refusal-requires
+    same-length
+    returns
+    record-length-requires
+    add-after
+    put-record-requires
+    sub-put-length
+    put-length-requires
+    same-length-2
+    returns-2)
