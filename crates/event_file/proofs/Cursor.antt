@@ -57,6 +57,16 @@ stepped-end file at low e =
     let h : at ≤ length file = omega arith in
     simp (le-ltb _ _ low, le-ltb _ _ h, eq-eqb _ _ e)
 
+-- a step at a record
+pub stepped-at :
+    (file : List ℕ) (at : ℕ) → 5 ≤ at → at < length file →
+    steppedTo at (at + 1 + getD file at 0) (recordAt (drop at file)) ≡ stepped file at
+unfolding stepped
+stepped-at file at low h =
+    let within : at ≤ length file = omega arith in
+    let inside : at ≡ length file → ⊥ = omega arith in
+    simp (le-ltb _ _ low, le-ltb _ _ within, ne-eqb _ _ inside)
+
 -- the answer of the code, as document 01 has it
 abbrev pub shown : Stepped → file.Stepped
 shown r = record { found = shownFound (r .found); offset = r .offset }
@@ -67,10 +77,5 @@ shown-moved (some e) at next = refl
 
 pub stepped-record :
     (file : List ℕ) (at : ℕ) (r : Stepped) → 5 ≤ at → at < length file → r ≡ stepAt file at → shown r ≡ stepped file at
-unfolding stepped
 stepped-record file at r low h e =
-    let within : at ≤ length file = omega arith in
-    let inside : at ≡ length file → ⊥ = omega arith in
-    ap shown e
-    ∙ shown-moved (recordAt (drop at file)) at (at + 1 + getD file at 0)
-    ∙ simp (le-ltb _ _ low, le-ltb _ _ within, ne-eqb _ _ inside)
+    ap shown e ∙ shown-moved (recordAt (drop at file)) at (at + 1 + getD file at 0) ∙ stepped-at file at low h

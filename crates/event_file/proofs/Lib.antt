@@ -4,3 +4,8 @@ pub mod Reading
 pub mod Cursor
 pub mod Accepting
 pub mod Writing
+pub mod WrittenThenRead
+pub mod ReadThenWritten
+pub mod Stepwise
+pub mod Appending
+pub mod Inverse

@@ -10,7 +10,7 @@ use native.Mathlib.Numerals.{add-one}
 use lib.ListN.{length, getD, take, drop, length-drop, drop-of-length-le}
 use lib.Seq.{drop-cons, drop-drop}
 use lib.Dec.{leb}
-use borrow.Author.Tests.{leb-true, le-leb, lt-leb}
+use borrow.Author.Tests.{leb-true, leb-false, le-leb, lt-leb}
 use Rattle.rules.specs.declared.Event.{Event}
 use Rattle.rules.specs.EventFile.{eventOf, bodyOf, recordAt, joined, eventsAfter, isNone}
 use Rattle.event_file.specs.declared.reader.Found.{Found}
@@ -50,6 +50,19 @@ recordAt-within :
     (l : List ℕ) (at : ℕ) → at < length l → getD l at 0 ≤ length l - (at + 1) →
     recordAt (drop at l) ≡ bodyOf (take (getD l at 0) (drop (at + 1) l))
 recordAt-within l at h within = rw (recordAt-drop l at h, le-leb _ _ within)
+
+-- a good record stands inside the bytes
+pub record-inside : (l : List ℕ) (at : ℕ) (e : Event) → at < length l → recordAt (drop at l) ≡ some e → at + 1 + getD l at 0 ≤ length l
+record-inside l at e h r = go (two (leb (getD l at 0) (length l - (at + 1))))
+  where
+    go : Two (leb (getD l at 0) (length l - (at + 1))) → at + 1 + getD l at 0 ≤ length l
+    go (yes-true inside) =
+        let within : getD l at 0 ≤ length l - (at + 1) = leb-true _ _ inside in
+        omega arith
+    go (no-false out) =
+        let past : recordAt (drop at l) ≡ none = recordAt-past l at h (leb-false _ _ out) in
+        let z : _≡_ {A = ℕ} 0 1 = cc in
+        absurd (omega arith)
 
 -- the record at an offset, read: what a step there answers
 abbrev pub stepAt : List ℕ → ℕ → Stepped

@@ -1,2 +1,3 @@
 -- What the code's answers stand for in document 01.
 pub mod Answers
+pub mod Steps
