@@ -2,3 +2,12 @@
 pub mod reader;
 mod words;
 pub mod writer;
+
+pub use reader::Found;
+pub use reader::Opened;
+pub use reader::Stepped;
+pub use reader::open;
+pub use reader::step;
+pub use writer::Written;
+pub use writer::append;
+pub use writer::start;

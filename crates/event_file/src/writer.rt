@@ -37,9 +37,9 @@ fn append_refusal(buffer: &[u8], filled: usize, event: Event) -> u8
     if buffer.len() < filled {
         return 14;
     }
-    let refusal = file_refusal(&buffer[..filled]);
-    if refusal != 0 {
-        return refusal;
+    let of_file = file_refusal(&buffer[..filled]);
+    if of_file != 0 {
+        return of_file;
     }
     let after = filled + records::record_length(event);
     if buffer.len() < after {
