@@ -1,7 +1,7 @@
 -- What acceptance says: each test of a refusal, read backwards.
 use Prim.Native.Nat.{ℕ, zero, suc, _+_, _≤_}
-use mathlib.Core.Path.{_≡_, refl, ap, sym, _∙_}
-use mathlib.Core.List.{List, [], _∷_}
+use mathlib.Core.Path.{_≡_, refl}
+use mathlib.Core.List.{List}
 use mathlib.Core.Bool.{Bool, true, false, not, _||_, true≢false}
 use mathlib.Core.Option.{Option, none, some}
 use native.Mathlib.Omega.{arith}
@@ -11,8 +11,8 @@ use lib.Dec.{ltb, eqb}
 use borrow.Author.Tests.{ltb-false, eqb-true, eqb-false, not-false, le-ltb, eq-eqb, ne-eqb}
 use Rattle.rules.specs.declared.Event.{Event}
 use Rattle.rules.specs.Refusals.{_gives_else_}
-use Rattle.rules.specs.EventFile.{recordOf, recordsIn, isNone, orNone, lengthField, headRefusal, fileRefusalAfter, fileRefusal, eventsOf}
-use Rattle.rules.specs.EventFile.{roomRefusal, appendRefusalAfter, appendRefusal}
+use Rattle.rules.specs.EventFile.{recordsIn, isNone, orNone, lengthField, headRefusal, fileRefusalAfter, fileRefusal, eventsOf}
+use Rattle.rules.specs.EventFile.{recordOf, appendRefusalAfter, appendRefusal}
 
 -- no refusal: neither this one nor a later
 gives-none : (b : Bool) (k n : ℕ) → (b gives suc k else n) ≡ 0 → (b ≡ false) × (n ≡ 0)
@@ -55,7 +55,7 @@ headed file e =
     }
 
 -- the head of a file that keeps its rules is not refused
-pub unrefused-head : (file : List ℕ) → Headed file → headRefusal file ≡ 0
+unrefused-head : (file : List ℕ) → Headed file → headRefusal file ≡ 0
 unrefused-head file h =
     let long : 4 ≤ length file = omega arith in
     let filled : lengthField file ≡ 0 → ⊥ = omega arith in
@@ -92,7 +92,8 @@ pub record Addable (buffer : List ℕ) (filled : ℕ) (e : Event) : Type 0 where
 
 addable-after :
     (n : ℕ) (buffer : List ℕ) (filled : ℕ) (e : Event) →
-    filled ≤ length buffer → fileRefusal (take filled buffer) ≡ n → appendRefusalAfter n buffer filled e ≡ 0 → Addable buffer filled e
+    filled ≤ length buffer → fileRefusal (take filled buffer) ≡ n → appendRefusalAfter n buffer filled e ≡ 0 →
+    Addable buffer filled e
 addable-after zero buffer filled e h f r =
     let ways = neither _ _ (gives-none _ 16 _ r .0) in
     record { filled-within = h; file = f; room = ltb-false _ _ (ways .0); small = ltb-false _ _ (ways .1) }

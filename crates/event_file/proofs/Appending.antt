@@ -1,14 +1,14 @@
 -- Starting a file and appending a list writes the file of that list and no other byte.
-use Prim.Native.Nat.{ℕ, zero, suc, _+_, _-_, _≤_}
+use Prim.Native.Nat.{ℕ, _+_, _-_, _≤_}
 use mathlib.Core.Path.{_≡_, refl, ap, ap₂, sym, subst, _∙_}
 use mathlib.Core.List.{List, [], _∷_, _++_, append-assoc, append-nil}
 use native.Mathlib.Omega.{arith}
 use lib.ListN.{length, take, drop, length-append, length-drop}
-use lib.Seq.{sets, sets-eq, take-append-seam, drop-append-seam, take-append-add, drop-append-add, drop-drop, append-snoc}
+use lib.Seq.{sets, sets-eq, take-append-seam, drop-append-add, drop-drop, append-snoc}
 use borrow.Author.Tests.{le-ltb}
 use Rattle.rules.specs.declared.Event.{Event}
 use Rattle.rules.specs.EventFile.{recordOf, recordsOf, fourBytes, fileOf, fileRefusal, appendRefusal, Written, started, appended}
-use Rattle.event_file.specs.Steps.{appendedAll, unlessRefused, writtenAll}
+use Rattle.event_file.specs.Steps.{appendedAll, writtenAll}
 use Rattle.event_file.proofs.WrittenThenRead.{length-fileOf, accepted-back}
 use Rattle.event_file.proofs.Writing.{started-accepted, appended-accepted, refused-room}
 
@@ -66,7 +66,8 @@ unfolding fileOf
 renewed es e rest h =
     let count : length (fileOf es) + length (recordOf e) - 4 ≡ 1 + length (recordsOf (es ++ (e ∷ []))) =
     omega (arith, length-one es e, length-fileOf (es ++ (e ∷ []))) in
-    ap (λ (l : List ℕ). sets l 0 (fourBytes (length (fileOf es) + length (recordOf e) - 4))) (stored-after (fileOf es) rest (recordOf e) h)
+    ap (λ (l : List ℕ). sets l 0 (fourBytes (length (fileOf es) + length (recordOf e) - 4)))
+    (stored-after (fileOf es) rest (recordOf e) h)
     ∙ ap₂ (λ (n : ℕ) (l : List ℕ). fourBytes n ++ (1 ∷ (l ++ drop (length (recordOf e)) rest))) count (sym (recordsOf-one es e))
 
 -- one append, to a buffer that holds the file so far
@@ -86,7 +87,8 @@ module _ (before : List ℕ) (es : List Event) (e : Event) where
       let no-refusal : 0 ≡ appendRefusal (fileOf es ++ rest) (length (fileOf es)) e =
       rw (← refused-room (fileOf es ++ rest) (length (fileOf es)) e 0 (length (recordOf e)) (omega arith) good refl refl)
       (simp (le-ltb _ _ fits-buffer, le-ltb _ _ fits-file)) in
-      let answer = sym (appended-accepted (fileOf es ++ rest) _ (length (fileOf es)) e 0 (length (recordOf e)) no-refusal refl refl refl) in
+      let answer =
+      sym (appended-accepted (fileOf es ++ rest) _ (length (fileOf es)) e 0 (length (recordOf e)) no-refusal refl refl refl) in
       record {
         accepted = ap (λ (w : Written). w .refusal) answer;
         filled = ap (λ (w : Written). w .filled) answer ∙ sym size;

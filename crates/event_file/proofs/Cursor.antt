@@ -2,14 +2,16 @@
 use Prim.Native.Nat.{ℕ, zero, suc, _+_, _<_, _≤_}
 use mathlib.Core.Path.{_≡_, refl, ap, sym, _∙_}
 use mathlib.Core.List.{List}
+use mathlib.Core.Bool.{Bool, true, false, cond, _||_}
 use mathlib.Core.Option.{Option, none, some}
 use native.Mathlib.Omega.{arith}
 use lib.ListN.{length, getD, drop}
+use lib.Dec.{ltb, eqb}
 use borrow.Author.Tests.{eq-eqb, ne-eqb, le-ltb, lt-ltb}
 use Rattle.rules.specs.declared.Event.{Event}
 use Rattle.rules.specs.Refusals.{_gives_else_}
 use Rattle.rules.specs.EventFile.{recordAt, recordsIn, isNone, headRefusal, fileRefusalAfter, fileRefusal, openedAs, opened}
-use Rattle.rules.specs.EventFile.{end, bad, steppedTo, stepped}
+use Rattle.rules.specs.EventFile.{event, end, bad, steppedTo, stepped}
 use Rattle.rules.specs.EventFile as file
 use Rattle.event_file.specs.declared.reader.Stepped.{Stepped}
 use Rattle.event_file.specs.Answers.{foundOf, movedTo, shownFound}
@@ -25,7 +27,8 @@ unfolding fileRefusal
 refused-by-head file n e h = head-first n file h ∙ ap (λ (k : ℕ). fileRefusalAfter k file) e
 
 pub refused-by-records :
-    (file : List ℕ) (n r : ℕ) → n ≡ headRefusal file → n ≡ 0 → r ≡ (isNone (recordsIn file) gives 16 else 0) → r ≡ fileRefusal file
+    (file : List ℕ) (n r : ℕ) →
+    n ≡ headRefusal file → n ≡ 0 → r ≡ (isNone (recordsIn file) gives 16 else 0) → r ≡ fileRefusal file
 unfolding fileRefusal
 refused-by-records file n r e h records = records ∙ ap (λ (k : ℕ). fileRefusalAfter k file) (sym h ∙ e)
 
@@ -34,7 +37,8 @@ refused-opens : (n : ℕ) → (n ≡ 0 → ⊥) → record { refusal = n; offset
 refused-opens zero h = absurd (h refl)
 refused-opens (suc n) h = refl
 
-pub opened-refused : (file : List ℕ) (n : ℕ) → n ≡ fileRefusal file → (n ≡ 0 → ⊥) → record { refusal = n; offset = 0 } ≡ opened file
+pub opened-refused :
+    (file : List ℕ) (n : ℕ) → n ≡ fileRefusal file → (n ≡ 0 → ⊥) → record { refusal = n; offset = 0 } ≡ opened file
 unfolding opened
 opened-refused file n e h = refused-opens n h ∙ ap openedAs e
 
@@ -79,3 +83,18 @@ pub stepped-record :
     (file : List ℕ) (at : ℕ) (r : Stepped) → 5 ≤ at → at < length file → r ≡ stepAt file at → shown r ≡ stepped file at
 stepped-record file at r low h e =
     ap shown e ∙ shown-moved (recordAt (drop at file)) at (at + 1 + getD file at 0) ∙ stepped-at file at low h
+
+-- a step finds an event only where a good record begins
+picked :
+    (outside ended : Bool) (o : Option Event) (at next : ℕ) (e : Event) →
+    cond outside (record { found = bad; offset = at }) (cond ended (record { found = end; offset = at }) (steppedTo at next o)) .found ≡ event e →
+    o ≡ some e
+picked true ended o at next e h = let z : _≡_ {A = ℕ} 0 1 = cc in absurd (omega arith)
+picked false true o at next e h = let z : _≡_ {A = ℕ} 0 1 = cc in absurd (omega arith)
+picked false false none at next e h = let z : _≡_ {A = ℕ} 0 1 = cc in absurd (omega arith)
+picked false false (some x) at next e h = cc
+
+pub found-record : (file : List ℕ) (at : ℕ) (e : Event) → stepped file at .found ≡ event e → recordAt (drop at file) ≡ some e
+unfolding stepped
+found-record file at e h =
+    picked (ltb at 5 || ltb (length file) at) (eqb at (length file)) (recordAt (drop at file)) at (at + 1 + getD file at 0) e h

@@ -8,16 +8,17 @@ use native.Mathlib.Omega.{arith}
 use lib.ListN.{length, take, drop}
 use lib.Seq.{take-append-seam, drop-append-seam}
 use Rattle.rules.specs.declared.Event.{Event}
-use Rattle.rules.specs.Lists.{allFit}
-use Rattle.rules.specs.EventFile.{fileOf, recordsIn, orNone, fileRefusal, eventsOf, Written}
+use Rattle.rules.specs.Lists.{fits, allFit}
+use Rattle.rules.specs.EventFile.{fileOf, recordsIn, orNone, fileRefusal, eventsOf, event, stepped, Written}
 use Rattle.event_file.specs.Steps.{eventsFrom, writtenAll}
 use Rattle.event_file.proofs.Accepting.{accepted}
+use Rattle.event_file.proofs.Cursor.{found-record}
 use Rattle.event_file.proofs.WrittenThenRead.{accepted-back, eventsOf-back}
-use Rattle.event_file.proofs.ReadThenWritten.{Bytes, file-written, all-fit}
+use Rattle.event_file.proofs.ReadThenWritten.{Bytes, bytes-drop, record-fits, file-written, all-fit}
 use Rattle.event_file.proofs.Stepwise.{steps-collect}
 use Rattle.event_file.proofs.Appending.{Holds, holds-all}
 
--- 1. The file of every list of events, if it is not too long, is accepted and read back as that list. Operands need not fit their bytes.
+-- 1. The file of every list of events, if not too long, is accepted and read back as that list. No operand need fit its bytes.
 pub reads-back : (es : List Event) → length (fileOf es) ≤ 65536 → (fileRefusal (fileOf es) ≡ 0) × (eventsOf (fileOf es) ≡ es)
 reads-back es h = (accepted-back es h, eventsOf-back es)
 
@@ -32,7 +33,7 @@ pub reading-injective :
 reading-injective file other bytes bytes′ h h′ same =
     as-written file bytes h ∙ ap fileOf same ∙ sym (as-written other bytes′ h′)
 
--- Every event read from bytes, accepted or not, holds only what its operands can hold.
+-- Every event read from bytes, of a whole file or at a step, accepted or not, holds only what its operands can hold.
 pub events-fit : (file : List ℕ) → Bytes file → allFit (eventsOf file) ≡ true
 unfolding eventsOf allFit
 events-fit file bytes = go (recordsIn file) refl
@@ -41,6 +42,9 @@ events-fit file bytes = go (recordsIn file) refl
     go none e = refl
     go (some es) e = all-fit file es bytes e
 
+pub step-fits : (file : List ℕ) (at : ℕ) (e : Event) → Bytes file → stepped file at .found ≡ event e → fits e ≡ true
+step-fits file at e bytes found = record-fits (drop at file) e (bytes-drop at file bytes) (found-record file at e found)
+
 -- 3. Stepping through an accepted file, from offset 5 to its end, yields exactly its events.
 pub steps : (file : List ℕ) → fileRefusal file ≡ 0 → eventsFrom file 5 ≡ some (eventsOf file)
 steps file h =
@@ -48,8 +52,8 @@ steps file h =
     let five = a .head .five in
     steps-collect (length file) file 5 (omega arith) five (omega arith) ∙ a .records
 
--- 4. Starting a file in a buffer with room for it and appending a list, the first refusal ending it, is never refused. The bytes filled
--- are the file of that list, and every other byte is as it was.
+-- 4. Starting a file and appending a list, in a buffer with room for it, is never refused: the first refusal would end it and
+-- stand as the answer. The bytes filled are the file of that list, and every other byte is as it was.
 pub record Appends (es : List Event) (before : List ℕ) (w : Written) : Type 0 where
   pub accepted-each : w .refusal ≡ 0
   pub filled-by : w .filled ≡ length (fileOf es)

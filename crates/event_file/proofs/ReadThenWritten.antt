@@ -1,24 +1,24 @@
 -- What is read is what the writer writes: an accepted file of bytes is the file of its events.
-use Prim.Native.Nat.{ℕ, zero, suc, _+_, _*_, _/_, _%_, _≤_, _<_}
+use Prim.Native.Nat.{ℕ, zero, suc, _+_, _/_, _%_, _<_}
 use mathlib.Core.Path.{_≡_, refl, ap, ap₂, sym, subst, subst⁻¹, _∙_}
 use mathlib.Core.List.{List, [], _∷_, _++_}
 use mathlib.Core.Bool.{Bool, true, false, cond, _&&_}
 use mathlib.Core.Option.{Option, none, some}
 use native.Mathlib.Omega.{arith}
 use lib.ListN.{length, getD, take, drop, take-append-drop}
-use lib.Seq.{length-take-le, getD-take, getD-drop}
+use lib.Seq.{length-take-le, getD-drop}
 use lib.Dec.{leb, eqb}
 use borrow.Author.Tests.{le-leb, leb-true, eqb-true}
 use Rattle.rules.specs.declared.Role.the-variants.{Client, Server}
 use Rattle.rules.specs.declared.Role.{Role}
 use Rattle.rules.specs.declared.Event.{Event}
-use Rattle.rules.specs.declared.Event.the-variants.{Create, Give, Call, Reply, Block, Wake, Charge, Abort}
+use Rattle.rules.specs.declared.Event.the-variants.{Create, Call, Reply, Block, Wake, Charge, Abort}
 use Rattle.rules.specs.Lists.{byte, twoBytes, fits, allFit}
 use Rattle.rules.specs.EventFile.{wordOf, highByte, lowByte, roleByte, recordOf, recordsOf, fourBytes, fileOf}
-use Rattle.rules.specs.EventFile.{noOperand, oneByte, oneWord, createWith, createFrom, giveFrom, eventOf, bodyOf, recordAt, joined, eventsAfter}
-use Rattle.rules.specs.EventFile.{lengthField, recordsIn, fileRefusal, eventsOf}
+use Rattle.rules.specs.EventFile.{noOperand, oneByte, oneWord, createFrom, giveFrom, eventOf, bodyOf, recordAt}
+use Rattle.rules.specs.EventFile.{joined, eventsAfter, recordsIn}
 use Rattle.event_file.proofs.Reading.{Two, yes-true, no-false, two, eventsAfter-cons}
-use Rattle.event_file.proofs.Accepting.{Headed, accepted}
+use Rattle.event_file.proofs.Accepting.{Headed}
 
 -- every element is a byte, as of a lent slice
 abbrev pub Bytes : List ℕ → Type 0
@@ -99,7 +99,9 @@ give-good (a ∷ b ∷ c ∷ d ∷ e ∷ []) bs =
     record {
       written = ap₂ (λ (x y : ℕ). 6 ∷ 2 ∷ a ∷ b ∷ c ∷ x ∷ y ∷ []) (sym (high-back d e (bs 4))) (sym (low-back d e (bs 4)));
       fitting =
-          both-true _ _ (both-true _ _ (both-true _ _ (a-byte a (bs 0)) (a-byte b (bs 1))) (a-byte c (bs 2))) (a-word d e (bs 3) (bs 4));
+          both-true _ _
+          (both-true _ _ (both-true _ _ (a-byte a (bs 0)) (a-byte b (bs 1))) (a-byte c (bs 2)))
+          (a-word d e (bs 3) (bs 4));
     }
 give-good (a ∷ b ∷ c ∷ d ∷ e ∷ f ∷ rest) bs = tt
 
@@ -129,7 +131,7 @@ bytes-take (suc n) [] bs i = omega arith
 bytes-take (suc n) (x ∷ xs) bs zero = bs 0
 bytes-take (suc n) (x ∷ xs) bs (suc i) = bytes-take n xs (λ j. bs (suc j)) i
 
-bytes-drop : (n : ℕ) (l : List ℕ) → Bytes l → Bytes (drop n l)
+pub bytes-drop : (n : ℕ) (l : List ℕ) → Bytes l → Bytes (drop n l)
 bytes-drop n l bs i = rw getD-drop (bs (n + i))
 
 -- a good record of bytes is the writer's, and it fits
@@ -152,10 +154,17 @@ record-written n rest e bs r = go (two (leb n (length rest)))
         subst (λ (o : Option Event). Good (take n rest) o) read (body-good (take n rest) (bytes-take n rest (λ i. bs (suc i)))) in
         record {
           bytes =
-              ap₂ (λ (k : ℕ) (l : List ℕ). k ∷ l) (sym (length-take-le n rest (leb-true _ _ inside))) (sym (take-append-drop n rest))
+              ap₂ (λ (k : ℕ) (l : List ℕ). k ∷ l)
+              (sym (length-take-le n rest (leb-true _ _ inside)))
+              (sym (take-append-drop n rest))
               ∙ ap (λ (l : List ℕ). l ++ drop n rest) (good .written);
           fitting = good .fitting;
         }
+
+pub record-fits : (l : List ℕ) (e : Event) → Bytes l → recordAt l ≡ some e → fits e ≡ true
+unfolding recordAt
+record-fits [] e bs r = let z : _≡_ {A = ℕ} 0 1 = cc in absurd (omega arith)
+record-fits (n ∷ rest) e bs r = record-written n rest e bs r .fitting
 
 -- reading yields an event only where a record is good and the rest reads
 joined-some :

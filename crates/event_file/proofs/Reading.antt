@@ -52,7 +52,8 @@ recordAt-within :
 recordAt-within l at h within = rw (recordAt-drop l at h, le-leb _ _ within)
 
 -- a good record stands inside the bytes
-pub record-inside : (l : List ℕ) (at : ℕ) (e : Event) → at < length l → recordAt (drop at l) ≡ some e → at + 1 + getD l at 0 ≤ length l
+pub record-inside :
+    (l : List ℕ) (at : ℕ) (e : Event) → at < length l → recordAt (drop at l) ≡ some e → at + 1 + getD l at 0 ≤ length l
 record-inside l at e h r = go (two (leb (getD l at 0) (length l - (at + 1))))
   where
     go : Two (leb (getD l at 0) (length l - (at + 1))) → at + 1 + getD l at 0 ≤ length l

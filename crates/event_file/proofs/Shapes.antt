@@ -2,7 +2,7 @@
 use Prim.Native.Nat.{ℕ}
 use mathlib.Core.Path.{_≡_, refl}
 use mathlib.Core.List.{List, [], _∷_}
-use mathlib.Core.Bool.{Bool, true, false, cond}
+use mathlib.Core.Bool.{cond}
 use mathlib.Core.Option.{Option, none, some}
 use native.Mathlib.Omega.{arith}
 use lib.ListN.{length, getD}
@@ -31,7 +31,8 @@ oneByte-is f [] = refl
 oneByte-is f (a ∷ []) = refl
 oneByte-is f (a ∷ b ∷ rest) = rw (ne-eqb (length (a ∷ b ∷ rest)) 1 (omega arith))
 
-pub oneWord-is : (f : ℕ → Event) (l : List ℕ) → oneWord f l ≡ cond (eqb (length l) 2) (some (f (wordOf (getD l 0 0) (getD l 1 0)))) none
+pub oneWord-is :
+    (f : ℕ → Event) (l : List ℕ) → oneWord f l ≡ cond (eqb (length l) 2) (some (f (wordOf (getD l 0 0) (getD l 1 0)))) none
 oneWord-is f [] = refl
 oneWord-is f (a ∷ []) = refl
 oneWord-is f (a ∷ b ∷ []) = refl

@@ -1,15 +1,14 @@
 -- Stepping from an offset to the end collects the events that are left to read.
 use Prim.Native.Nat.{ℕ, zero, suc, _+_, _<_, _≤_}
 use mathlib.Core.Path.{_≡_, refl, ap, sym, _∙_}
-use mathlib.Core.List.{List, [], _∷_}
-use mathlib.Core.Bool.{Bool, true, false}
+use mathlib.Core.List.{List, []}
 use mathlib.Core.Option.{Option, none, some}
 use native.Mathlib.Omega.{arith}
 use lib.ListN.{length, getD, drop, drop-of-length-le}
 use lib.Dec.{eqb}
 use borrow.Author.Tests.{eqb-true, eqb-false}
 use Rattle.rules.specs.declared.Event.{Event}
-use Rattle.rules.specs.EventFile.{recordAt, joined, eventsAfter, Stepped, event, end, steppedTo, stepped}
+use Rattle.rules.specs.EventFile.{recordAt, joined, eventsAfter, Stepped, steppedTo, stepped}
 use Rattle.event_file.specs.Steps.{collected, eventsIn}
 use Rattle.event_file.proofs.Reading.{Two, yes-true, no-false, two, eventsAfter-drop, record-inside}
 use Rattle.event_file.proofs.Cursor.{stepped-end, stepped-at}
@@ -41,7 +40,8 @@ one-step further file at low inside go-on (no-false other) =
     let apart : at ≡ length file → ⊥ = eqb-false _ _ other in
     let h : at < length file = omega arith in
     ap (goesOn further) (sym (stepped-at file at low h))
-    ∙ at-record further (recordAt (drop at file)) at (at + 1 + getD file at 0) (eventsAfter 0 (drop (at + 1 + getD file at 0) file))
+    ∙ at-record further (recordAt (drop at file)) at (at + 1 + getD file at 0)
+    (eventsAfter 0 (drop (at + 1 + getD file at 0) file))
     (λ e r. go-on (at + 1 + getD file at 0) (omega arith) (record-inside file at e h r))
     ∙ sym (eventsAfter-drop file at h)
 

@@ -2,13 +2,12 @@
 use Prim.Native.Nat.{ℕ, zero, suc, _+_, _-_, _<_, _≤_}
 use mathlib.Core.Path.{_≡_, refl, ap, sym, subst, _∙_}
 use mathlib.Core.List.{List, [], _∷_}
-use native.Mathlib.Omega.{arith}
 use lib.ListN.{length, take}
 use lib.Seq.{sets}
 use borrow.Author.Tests.{le-ltb, lt-ltb}
 use Rattle.rules.specs.declared.Event.{Event}
-use Rattle.rules.specs.EventFile.{recordOf, recordsOf, fourBytes, fileOf, fileRefusal, roomRefusal, appendRefusalAfter, appendRefusal}
-use Rattle.rules.specs.EventFile.{Written, started, appendedAs, appended}
+use Rattle.rules.specs.EventFile.{recordOf, recordsOf, fourBytes, fileOf, fileRefusal}
+use Rattle.rules.specs.EventFile.{started, roomRefusal, appendRefusalAfter, appendRefusal, appendedAs, appended}
 
 -- the same event has the same record
 pub same-room :

@@ -1,8 +1,8 @@
 -- What is written is read back: record by record, then the whole file.
-use Prim.Native.Nat.{ℕ, zero, suc, _+_, _*_, _/_, _%_, _≤_}
+use Prim.Native.Nat.{ℕ, _+_, _≤_}
 use mathlib.Core.Path.{_≡_, refl, ap, ap₂, _∙_}
 use mathlib.Core.List.{List, [], _∷_, _++_}
-use mathlib.Core.Option.{Option, none, some}
+use mathlib.Core.Option.{Option, some}
 use native.Mathlib.Omega.{arith}
 use lib.ListN.{length, drop, length-append}
 use lib.Seq.{take-append-seam, drop-append-seam}
@@ -10,8 +10,8 @@ use borrow.Author.Tests.{le-leb}
 use Rattle.rules.specs.declared.Role.the-variants.{Client, Server}
 use Rattle.rules.specs.declared.Event.{Event}
 use Rattle.rules.specs.declared.Event.the-variants.{Create, Give, Call, Reply, Block, Wake, Charge, Abort}
-use Rattle.rules.specs.EventFile.{wordOf, highByte, lowByte, recordOf, recordsOf, fourBytes, fileOf, bodyOf, recordAt, joined, eventsAfter}
-use Rattle.rules.specs.EventFile.{lengthField, recordsIn, orNone, fileRefusal, eventsOf}
+use Rattle.rules.specs.EventFile.{wordOf, highByte, lowByte, recordOf, recordsOf, fourBytes, fileOf}
+use Rattle.rules.specs.EventFile.{bodyOf, recordAt, joined, eventsAfter, lengthField, recordsIn, orNone, fileRefusal, eventsOf}
 use Rattle.event_file.proofs.Reading.{eventsAfter-cons}
 use Rattle.event_file.proofs.Accepting.{Headed, unrefused}
 
@@ -75,14 +75,14 @@ length-fileOf es = omega arith
 four-back : (n : ℕ) (rest : List ℕ) → lengthField (fourBytes n ++ rest) ≡ n
 four-back n rest = omega arith
 
-pub headed-back : (es : List Event) → length (fileOf es) ≤ 65536 → Headed (fileOf es)
+headed-back : (es : List Event) → length (fileOf es) ≤ 65536 → Headed (fileOf es)
 unfolding fileOf
 headed-back es h =
     let field : lengthField (fileOf es) ≡ 1 + length (recordsOf es) = four-back (1 + length (recordsOf es)) (1 ∷ recordsOf es) in
     let size : length (fileOf es) ≡ 5 + length (recordsOf es) = length-fileOf es in
     record { small = h; counted = omega arith; five = omega arith; version = refl }
 
-pub recordsIn-back : (es : List Event) → recordsIn (fileOf es) ≡ some es
+recordsIn-back : (es : List Event) → recordsIn (fileOf es) ≡ some es
 unfolding fileOf
 recordsIn-back es = records-back es
 

@@ -45,7 +45,8 @@ fn moved(found: Found, at: usize, next: usize) -> Stepped
 // The record that begins at an offset inside the file.
 fn record_at(file: &[u8], at: usize) -> Stepped
     requires { ⌜ at < length (now file) ⌝ }
-    ensures { λ r. ⌜ r ≡ movedTo (foundOf (recordAt (drop at (now (file .entry))))) at (at + 1 + getD (now (file .entry)) at 0) ⌝ }
+    ensures { λ r. ⌜ r ≡ movedTo (foundOf (recordAt (drop at (now (file .entry))))) at
+        (at + 1 + getD (now (file .entry)) at 0) ⌝ }
 {
     let count = wide(file[at]);
     let first = at + 1;
@@ -76,6 +77,7 @@ fn records_refusal(file: &[u8]) -> u8
     0
 }
 
+// The head first, then every record.
 pub fn file_refusal(file: &[u8]) -> u8
     ensures { λ r. ⌜ r ≡ fileRefusal (now (file .entry)) ⌝ }
 {
@@ -86,8 +88,10 @@ pub fn file_refusal(file: &[u8]) -> u8
     records_refusal(file)
 }
 
+// Checks the whole file. Its records begin at the offset 5.
 pub fn open(file: &[u8]) -> Opened
-    ensures { λ r. ⌜ (r .refusal ≡ opened (now (file .entry)) .refusal) × (r .offset ≡ opened (now (file .entry)) .offset) ⌝ }
+    ensures { λ r. ⌜ (r .refusal ≡ opened (now (file .entry)) .refusal)
+        × (r .offset ≡ opened (now (file .entry)) .offset) ⌝ }
 {
     let refusal = file_refusal(file);
     if refusal != 0 {
@@ -99,8 +103,10 @@ pub fn open(file: &[u8]) -> Opened
     }
 }
 
+// Reads the record at an offset inside the records. The file's end, and what is no good record, keep the offset.
 pub fn step(file: &[u8], at: usize) -> Stepped
-    ensures { λ r. ⌜ (shownFound (r .found) ≡ stepped (now (file .entry)) at .found) × (r .offset ≡ stepped (now (file .entry)) at .offset) ⌝ }
+    ensures { λ r. ⌜ (shownFound (r .found) ≡ stepped (now (file .entry)) at .found)
+        × (r .offset ≡ stepped (now (file .entry)) at .offset) ⌝ }
 {
     if at < 5 {
         return Stepped {

@@ -14,7 +14,9 @@ pub struct Written {
 
 // Starts a file of no records.
 pub fn start(buffer: &mut [u8]) -> Written
-    ensures { λ r. ⌜ (r .refusal ≡ started (now (buffer .entry)) .refusal) × (r .filled ≡ started (now (buffer .entry)) .filled) × (now (buffer .exit) ≡ started (now (buffer .entry)) .buffer) ⌝ }
+    ensures { λ r. ⌜ (r .refusal ≡ started (now (buffer .entry)) .refusal)
+        × (r .filled ≡ started (now (buffer .entry)) .filled)
+        × (now (buffer .exit) ≡ started (now (buffer .entry)) .buffer) ⌝ }
 {
     if buffer.len() < 5 {
         return Written {
@@ -53,7 +55,9 @@ fn append_refusal(buffer: &[u8], filled: usize, event: Event) -> u8
 
 // Adds a record and renews the length field.
 pub fn append(buffer: &mut [u8], filled: usize, event: Event) -> Written
-    ensures { λ r. ⌜ (r .refusal ≡ appended (now (buffer .entry)) filled event .refusal) × (r .filled ≡ appended (now (buffer .entry)) filled event .filled) × (now (buffer .exit) ≡ appended (now (buffer .entry)) filled event .buffer) ⌝ }
+    ensures { λ r. ⌜ (r .refusal ≡ appended (now (buffer .entry)) filled event .refusal)
+        × (r .filled ≡ appended (now (buffer .entry)) filled event .filled)
+        × (now (buffer .exit) ≡ appended (now (buffer .entry)) filled event .buffer) ⌝ }
 {
     let refusal = append_refusal(&buffer[..], filled, event);
     if refusal != 0 {

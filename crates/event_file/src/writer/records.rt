@@ -53,7 +53,8 @@ fn put_create(buffer: &mut [u8], at: usize, thread: u8, role: Role)
 
 fn put_give(buffer: &mut [u8], at: usize, timeslice: u8, thread: u8, priority: u8, quantum: u16)
     requires { ⌜ at + 7 ≤ length (now buffer) ⌝ }
-    ensures { λ r. ⌜ now (buffer .exit) ≡ sets (now (buffer .entry)) at (recordOf (Event.Give timeslice thread priority quantum)) ⌝ }
+    ensures { λ r. ⌜ now (buffer .exit)
+        ≡ sets (now (buffer .entry)) at (recordOf (Event.Give timeslice thread priority quantum)) ⌝ }
 {
     let high = high_byte(quantum);
     let low = low_byte(quantum);

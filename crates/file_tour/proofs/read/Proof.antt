@@ -1,3 +1,4 @@
+-- `read`: nothing is claimed; each turn counts up to the length of the file.
 use Prim.Native.Nat.{_-_}
 use borrow.Author.Needs.{needs}
 use Rattle.file_tour.proofs.read.Statement.{statement}

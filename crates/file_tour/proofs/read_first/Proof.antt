@@ -1,3 +1,4 @@
+-- `read_first`: the part lent has as many bytes as are filled.
 use mathlib.Core.Path.{sym}
 use lib.Seq.{length-take-le}
 use borrow.Author.Needs.{needs}

@@ -1,3 +1,4 @@
+-- `write`: nothing is claimed; the buffer keeps its length from turn to turn.
 use Prim.Native.Nat.{_-_}
 use mathlib.Core.Path.{_≡_}
 use borrow.Author.Needs.{needs}

@@ -1,3 +1,4 @@
+-- `file_refusal`: the head is refused first, then the records.
 use Rattle.event_file.proofs.Cursor.{refused-by-head, refused-by-records}
 use denote.Ref.{now}
 use borrow.Author.Needs.{needs}
@@ -14,7 +15,10 @@ records-refusal-requires : tie.Need-records-refusal-requires
 records-refusal-requires c κs = search needs
 
 returns-2 : tie.Need-returns-2
-returns-2 c = refused-by-records (now (c .before .before .before .before .args .file)) _ _ (c .before .before .head-refusal .ensures) (c .before .if1 .left) (c .records-refusal .ensures)
+returns-2 c =
+    let start = c .before .before .before .before in
+    refused-by-records (now (start .args .file)) _ _
+    (c .before .before .head-refusal .ensures) (c .before .if1 .left) (c .records-refusal .ensures)
 
 pub file-refusal-spec : {M : Type 1} → statement M
 file-refusal-spec =

@@ -1,3 +1,4 @@
+-- `moved`: each variant told picks its case of `movedTo`.
 use borrow.Author.Needs.{needs}
 use Rattle.event_file.proofs.reader.moved.Statement.{statement}
 use Rattle.event_file.proofs.reader.moved.Tie as tie

@@ -1,3 +1,4 @@
+-- `open`: a refused file opens at 0, an accepted one at 5.
 use denote.Ref.{now}
 use mathlib.Core.Path.{ap}
 use Rattle.rules.specs.EventFile.{Opened}

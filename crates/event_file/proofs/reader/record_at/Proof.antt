@@ -1,3 +1,4 @@
+-- `record_at`: the length byte, compared with what is left, decides whether the record runs past the end.
 use denote.Ref.{now}
 use Rattle.event_file.proofs.Reading.{record-past, record-within}
 use mathlib.Core.Path.{_∙_}

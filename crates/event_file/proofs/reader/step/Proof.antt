@@ -1,3 +1,4 @@
+-- `step`: the tests on the offset come in the order of document 01; then the record there is read.
 use denote.Ref.{now}
 use mathlib.Core.Path.{ap}
 use Rattle.rules.specs.EventFile.{Stepped}
@@ -8,17 +9,23 @@ use Rattle.event_file.proofs.reader.step.Tie as tie
 
 returns : tie.Need-returns
 returns c =
-    let e = stepped-low (now (c .before .before .args .file)) (c .before .before .args .at) (c .if1 .taken) in
+    let start = c .before .before in
+    let e =
+    stepped-low (now (start .args .file)) (start .args .at) (c .if1 .taken) in
     (ap (λ (s : Stepped). s .found) e, ap (λ (s : Stepped). s .offset) e)
 
 returns-2 : tie.Need-returns-2
 returns-2 c =
-    let e = stepped-past (now (c .before .before .before .args .file)) (c .before .before .before .args .at) (c .before .if1 .left) (c .if2 .taken) in
+    let start = c .before .before .before in
+    let e =
+    stepped-past (now (start .args .file)) (start .args .at) (c .before .if1 .left) (c .if2 .taken) in
     (ap (λ (s : Stepped). s .found) e, ap (λ (s : Stepped). s .offset) e)
 
 returns-3 : tie.Need-returns-3
 returns-3 c =
-    let e = stepped-end (now (c .before .before .before .before .args .file)) (c .before .before .before .before .args .at) (c .before .before .if1 .left) (c .if3 .taken) in
+    let start = c .before .before .before .before in
+    let e =
+    stepped-end (now (start .args .file)) (start .args .at) (c .before .before .if1 .left) (c .if3 .taken) in
     (ap (λ (s : Stepped). s .found) e, ap (λ (s : Stepped). s .offset) e)
 
 record-at-requires : tie.Need-record-at-requires
@@ -26,7 +33,10 @@ record-at-requires c κs = search needs
 
 returns-4 : tie.Need-returns-4
 returns-4 c =
-    let e = stepped-record (now (c .before .before .before .before .before .args .file)) (c .before .before .before .before .before .args .at) _ (c .before .before .before .if1 .left) (search needs) (c .record-at .ensures) in
+    let start = c .before .before .before .before .before in
+    let e =
+    stepped-record (now (start .args .file)) (start .args .at) _
+    (c .before .before .before .if1 .left) (search needs) (c .record-at .ensures) in
     (ap (λ (s : Stepped). s .found) e, ap (λ (s : Stepped). s .offset) e)
 
 pub step-spec : {M : Type 1} → statement M

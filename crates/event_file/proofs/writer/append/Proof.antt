@@ -1,3 +1,4 @@
+-- `append`: where nothing is refused the record fits, and both stores are those of the definition.
 use Prim.Native.Nat.{ℕ, _+_, _-_, _≤_}
 use mathlib.Core.List.{List}
 use native.Mathlib.Omega.{arith}
@@ -20,7 +21,10 @@ same-length c = search needs
 
 returns : tie.Need-returns
 returns c =
-    let e = appended-refused (now (c .before .before .before .before .args .buffer)) (c .before .before .before .before .args .filled) (c .before .before .before .before .args .event) _ (c .before .append-refusal .ensures) (c .if1 .taken) in
+    let start = c .before .before .before .before in
+    let e =
+    appended-refused (now (start .args .buffer)) (start .args .filled) (start .args .event) _
+    (c .before .append-refusal .ensures) (c .if1 .taken) in
     (ap (λ (w : Written). w .refusal) e, ap (λ (w : Written). w .filled) e, ap (λ (w : Written). w .buffer) e)
 
 record-length-requires : tie.Need-record-length-requires
@@ -29,7 +33,8 @@ record-length-requires c κs = search needs
 -- where it is not refused, the record may be added
 may-add :
     (c : tie.Else1) →
-    Addable (now (c .before .before .before .before .args .buffer)) (c .before .before .before .before .args .filled) (c .before .before .before .before .args .event)
+    let start = c .before .before .before .before in
+    Addable (now (start .args .buffer)) (start .args .filled) (start .args .event)
 may-add c = addable _ _ _ (sym (c .before .append-refusal .ensures) ∙ c .if1 .left)
 
 five : (c : tie.Else1) → 5 ≤ c .before .before .before .before .args .filled
@@ -47,22 +52,28 @@ sub-put-length c = omega (arith, five (c .before .before .before .before .before
 put-length-requires : tie.Need-put-length-requires
 put-length-requires c κs =
     let at-else = c .before .before .before .before .before .before in
-    let kept-length = ap length (c .before .before .before .put-record .ensures) ∙ length-sets _ _ (recordOf (at-else .before .before .before .before .args .event)) in
-    (omega (arith, kept-length, five at-else, may-add at-else .room), omega (arith, may-add at-else .small, c .before .before .before .before .before .record-length .ensures .0))
+    let at-size = c .before .before .before .before .before in
+    let event = at-else .before .before .before .before .args .event in
+    let same-size = ap length (c .before .before .before .put-record .ensures) ∙ length-sets _ _ (recordOf event) in (
+      omega (arith, same-size, five at-else, may-add at-else .room),
+      omega (arith, may-add at-else .small, at-size .record-length .ensures .0),
+    )
 
 same-length-2 : tie.Need-same-length-2
 same-length-2 c = search needs
 
 returns-2 : tie.Need-returns-2
 returns-2 c =
-    let at-else = c .before .before .before .before .before .before .before .before .before in
-    let at-start = at-else .before .before .before .before in
+    let at-size = c .before .before .before .before .before .before .before .before in
+    let at-else = at-size .before in
+    let start = at-else .before .before .before .before in
+    let field = fourBytes (start .args .filled + at-size .record-length .result - 4) in
     let stored =
     c .before .before .put-length .ensures
-    ∙ ap (λ (l : List ℕ). sets l 0 (fourBytes (at-start .args .filled + c .before .before .before .before .before .before .before .before .record-length .result - 4))) (c .before .before .before .before .before .before .put-record .ensures) in
+    ∙ ap (λ (l : List ℕ). sets l 0 field) (c .before .before .before .before .before .before .put-record .ensures) in
     let e =
-    appended-accepted (now (at-start .args .buffer)) _ (at-start .args .filled) (at-start .args .event) _ _
-    (at-else .before .append-refusal .ensures) (at-else .if1 .left) (c .before .before .before .before .before .before .before .before .record-length .ensures .0) stored in
+    appended-accepted (now (start .args .buffer)) _ (start .args .filled) (start .args .event) _ _
+    (at-else .before .append-refusal .ensures) (at-else .if1 .left) (at-size .record-length .ensures .0) stored in
     (ap (λ (w : Written). w .refusal) e, ap (λ (w : Written). w .filled) e, ap (λ (w : Written). w .buffer) e)
 
 pub append-spec : {M : Type 1} → statement M

@@ -1,3 +1,4 @@
+-- `start`: five bytes, if the buffer has them.
 use Prim.Native.Nat.{ℕ}
 use mathlib.Core.List.{List}
 use lib.ListN.{set}
@@ -25,7 +26,10 @@ same-length c = search needs
 
 returns-2 : tie.Need-returns-2
 returns-2 c =
-    let e = started-accepted (now (c .before .before .before .before .before .before .args .buffer)) _ (c .before .before .before .before .if1 .left) (ap (λ (l : List ℕ). set l 4 1) (c .before .before .put-length .ensures)) in
+    let start = c .before .before .before .before .before .before in
+    let e =
+    started-accepted (now (start .args .buffer)) _ (c .before .before .before .before .if1 .left)
+    (ap (λ (l : List ℕ). set l 4 1) (c .before .before .put-length .ensures)) in
     (ap (λ (w : Written). w .refusal) e, ap (λ (w : Written). w .filled) e, ap (λ (w : Written). w .buffer) e)
 
 pub start-spec : {M : Type 1} → statement M

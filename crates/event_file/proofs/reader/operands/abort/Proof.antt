@@ -1,3 +1,4 @@
+-- `abort`: one operand.
 use denote.Ref.{now}
 use Rattle.rules.specs.declared.Event.the-variants.{Abort}
 use Rattle.event_file.proofs.Shapes.{fit, unfit, oneByte-is}

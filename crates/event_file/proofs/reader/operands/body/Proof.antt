@@ -1,3 +1,4 @@
+-- `body`: a kind byte, and what follows it are the operands.
 use denote.Ref.{now}
 use Prim.Native.Nat.{ℕ, _-_}
 use mathlib.Core.List.{List}

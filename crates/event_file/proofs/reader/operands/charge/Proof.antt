@@ -1,3 +1,4 @@
+-- `charge`: two operands, which are one number.
 use denote.Ref.{now}
 use Rattle.rules.specs.declared.Event.the-variants.{Charge}
 use Rattle.event_file.proofs.Shapes.{fit, unfit, oneWord-is}
@@ -18,7 +19,9 @@ word-requires : tie.Need-word-requires
 word-requires c κs = search needs
 
 returns-2 : tie.Need-returns-2
-returns-2 c = rw (c .word .ensures) (fit _ _ _ _ (oneWord-is Charge (now (c .before .before .before .before .before .args .operands))) (c .before .before .before .if1 .left))
+returns-2 c =
+    let start = c .before .before .before .before .before in
+    rw (c .word .ensures) (fit _ _ _ _ (oneWord-is Charge (now (start .args .operands))) (c .before .before .before .if1 .left))
 
 pub charge-spec : {M : Type 1} → statement M
 charge-spec =

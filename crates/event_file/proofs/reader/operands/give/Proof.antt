@@ -1,3 +1,4 @@
+-- `give`: five operands, of which the last two are one number.
 use denote.Ref.{now}
 use Rattle.event_file.proofs.Shapes.{fit, unfit, giveFrom-is}
 use borrow.Author.Needs.{needs}
@@ -26,7 +27,10 @@ shared-slice-read-t12 : tie.Need-shared-slice-read-t12
 shared-slice-read-t12 c = search needs
 
 returns-2 : tie.Need-returns-2
-returns-2 c = rw (c .before .before .before .word .ensures) (fit _ _ _ _ (giveFrom-is (now (c .before .before .before .before .before .before .before .before .args .operands))) (c .before .before .before .before .before .before .if1 .left))
+returns-2 c =
+    let start = c .before .before .before .before .before .before .before .before in
+    rw (c .before .before .before .word .ensures)
+    (fit _ _ _ _ (giveFrom-is (now (start .args .operands))) (c .before .before .before .before .before .before .if1 .left))
 
 pub give-spec : {M : Type 1} → statement M
 give-spec =

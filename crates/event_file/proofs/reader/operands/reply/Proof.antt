@@ -1,3 +1,4 @@
+-- `reply`: no operand.
 use denote.Ref.{now}
 use Rattle.rules.specs.declared.Event.the-variants.{Reply}
 use Rattle.event_file.proofs.Shapes.{fit, unfit, noOperand-is}

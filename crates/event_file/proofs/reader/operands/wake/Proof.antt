@@ -1,3 +1,4 @@
+-- `wake`: one operand.
 use denote.Ref.{now}
 use Rattle.rules.specs.declared.Event.the-variants.{Wake}
 use Rattle.event_file.proofs.Shapes.{fit, unfit, oneByte-is}

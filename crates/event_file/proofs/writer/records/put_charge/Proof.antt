@@ -1,3 +1,4 @@
+-- `put_charge`: the units are stored as two bytes.
 use borrow.Author.Needs.{needs}
 use Rattle.event_file.proofs.writer.records.put_charge.Statement.{statement}
 use Rattle.event_file.proofs.writer.records.put_charge.Tie as tie
@@ -15,7 +16,12 @@ same-length : tie.Need-same-length
 same-length c = search needs
 
 returns : tie.Need-returns
-returns c = simp (c .before .before .put4 .ensures, c .before .before .before .before .low-byte .ensures, c .before .before .before .before .before .high-byte .ensures)
+returns c =
+    simp (
+      c .before .before .put4 .ensures,
+      c .before .before .before .before .low-byte .ensures,
+      c .before .before .before .before .before .high-byte .ensures,
+    )
 
 pub put-charge-spec : {M : Type 1} → statement M
 put-charge-spec =

@@ -1,3 +1,4 @@
+-- `put_create`: the role is stored as its byte.
 use borrow.Author.Needs.{needs}
 use Rattle.event_file.proofs.writer.records.put_create.Statement.{statement}
 use Rattle.event_file.proofs.writer.records.put_create.Tie as tie

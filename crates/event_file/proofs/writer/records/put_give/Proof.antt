@@ -1,3 +1,4 @@
+-- `put_give`: four bytes, then three.
 use native.Mathlib.Numerals.{towards-suc}
 use borrow.Author.Needs.{needs}
 use Rattle.event_file.proofs.writer.records.put_give.Statement.{statement}
@@ -22,7 +23,14 @@ same-length : tie.Need-same-length
 same-length c = search needs
 
 returns : tie.Need-returns
-returns c = simp (c .before .before .put3 .ensures, c .before .before .before .before .before .before .put4 .ensures, c .before .before .before .before .before .before .before .before .low-byte .ensures, c .before .before .before .before .before .before .before .before .before .high-byte .ensures, towards-suc)
+returns c =
+    simp (
+      c .before .before .put3 .ensures,
+      c .before .before .before .before .before .before .put4 .ensures,
+      c .before .before .before .before .before .before .before .before .low-byte .ensures,
+      c .before .before .before .before .before .before .before .before .before .high-byte .ensures,
+      towards-suc,
+    )
 
 pub put-give-spec : {M : Type 1} → statement M
 put-give-spec =

@@ -1,3 +1,4 @@
+-- `put4`: a run of stores is `sets`.
 use lib.ListN.{length-set}
 use native.Mathlib.Numerals.{towards-suc}
 use native.Mathlib.Omega.{arith}
