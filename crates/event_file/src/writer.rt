@@ -67,7 +67,7 @@ pub fn append(buffer: &mut [u8], filled: usize, event: Event) -> Written
     records::put_record(buffer, filled, event);
     stores::put_length(buffer, after - 4);
     Written {
-        refusal: 0,
+        refusal,
         filled: after,
     }
 }

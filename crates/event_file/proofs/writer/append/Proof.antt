@@ -74,7 +74,7 @@ returns-2 c =
     let e =
     appended-accepted (now (start .args .buffer)) _ (start .args .filled) (start .args .event) _ _
     (at-else .before .append-refusal .ensures) (at-else .if1 .left) (at-size .record-length .ensures .0) stored in
-    (ap (λ (w : Written). w .refusal) e, ap (λ (w : Written). w .filled) e, ap (λ (w : Written). w .buffer) e)
+    (at-else .if1 .left ∙ ap (λ (w : Written). w .refusal) e, ap (λ (w : Written). w .filled) e, ap (λ (w : Written). w .buffer) e)
 
 pub append-spec : {M : Type 1} → statement M
 append-spec =
