@@ -1,0 +1,39 @@
+// Document 01: "The event reader carries the file it was given and an offset into it, as a struct over the lent bytes." Each
+// function takes the struct apart and calls the cursor function on its file and offset.
+ghost use mathlib.Core.Path.{_≡_};
+ghost use denote.Ref.{now};
+ghost use Rattle.rules.specs.EventFile.{opened, stepped};
+ghost use Rattle.event_file.specs.Answers.{shownFound};
+use crate::reader::Found;
+use crate::reader::open;
+use crate::reader::step;
+
+pub struct Reader<'a> {
+    pub file: &'a [u8],
+    pub offset: usize,
+}
+
+// A reader over a file that is yet to be opened.
+pub fn over<'a>(file: &'a [u8]) -> Reader<'a>
+    ensures { λ r. ⌜ (r .file ≡ file .entry) × (r .offset ≡ 0) ⌝ }
+{
+    Reader { file, offset: 0 }
+}
+
+// Checks the reader's file whole and says the refusal number, 0 for an accepted file.
+pub fn open_reader<'s, 'a>(r: &'s mut Reader<'a>) -> u8
+    ensures { λ n. ⌜ (n ≡ opened (now (now (r .entry) .file)) .refusal) × (now (r .exit) .file ≡ now (r .entry) .file) × (now (r .exit) .offset ≡ opened (now (now (r .entry) .file)) .offset) ⌝ }
+{
+    let opening = open(r.file);
+    r.offset = opening.offset;
+    opening.refusal
+}
+
+// What stands at the reader's offset, which moves past a record.
+pub fn next<'s, 'a>(r: &'s mut Reader<'a>) -> Found
+    ensures { λ f. ⌜ (shownFound f ≡ stepped (now (now (r .entry) .file)) (now (r .entry) .offset) .found) × (now (r .exit) .file ≡ now (r .entry) .file) × (now (r .exit) .offset ≡ stepped (now (now (r .entry) .file)) (now (r .entry) .offset) .offset) ⌝ }
+{
+    let read = step(r.file, r.offset);
+    r.offset = read.offset;
+    read.found
+}
