@@ -9,3 +9,4 @@ pub mod ReadThenWritten
 pub mod Stepwise
 pub mod Appending
 pub mod Inverse
+pub mod Loan

@@ -44,7 +44,6 @@ use denote.Triple.Entry.{Vals, onEntry}
 use denote.Triple.Spec.{Meets, tripleOf}
 use denote.Triple.Table.{entered, cited}
 use denote.Triple.Walked.{says, Stays, stay-ref, walkOf, goes-ref, Walks, ends-at, walked, walk-meets}
-use denote.Exit.{yes}
 use Rattle.rules.specs.EventFile as file
 use Rattle.event_file.specs.declared.lent.Reader.{Reader}
 use Rattle.event_file.specs.declared.reader.Opened.{Opened}
