@@ -1,4 +1,4 @@
--- Laws of the definitions that the functions' proofs cite, then the theorems.
+-- Laws of the definitions that the functions' proofs cite, then the theorems, then what the walks over a reader struct share.
 pub mod Shapes
 pub mod Reading
 pub mod Cursor
@@ -9,4 +9,5 @@ pub mod ReadThenWritten
 pub mod Stepwise
 pub mod Appending
 pub mod Inverse
+pub mod HeldFile
 pub mod Loan

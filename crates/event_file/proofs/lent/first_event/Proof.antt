@@ -22,7 +22,7 @@ use types.Kit.{Given, ‵, raw, _⊛_, ⋆, some, later, _$_, _∵_, !, qed, by,
 use types.Part.{agg, whole, sub, look-in}
 use types.Run.{look, init, forget, stop, fld, from, load, addr, of-opd, and-then, no-more, assigns, land, returns, enter, alloc1, alloc0, params1, pass1, pass0, free1, free0}
 use sound.WpLaws.{FmC, fmOf, WpFn-mono}
-use denote.RattleType.{RattleType, owns}
+use denote.RattleType.{owns}
 use denote.Laws.{Is, shows}
 use denote.Memory.{cellAt}
 use denote.Plain.{uint-makes, uint-lawful}
@@ -32,7 +32,6 @@ use denote.Signature.{plain}
 use denote.Slice.{sliceVal, ShrSlice, slice-vals, shr-slice-tells, shr-slice-lawful, shr-slice-copy}
 use denote.Steps.{only, owned, peeks, heard, nothing}
 use denote.Enum.Laws as EL
-use denote.Struct.Declared.{Declared}
 use denote.Struct.Laws as LL
 use denote.Struct.Rest.{own-shut}
 use denote.Triple.Statement.{Contract, Triple}
@@ -48,6 +47,7 @@ use Rattle.event_file.specs.Answers.{shownFound}
 use Rattle.event_file.specs.declared.lent.Reader.{Reader}
 use Rattle.event_file.specs.declared.reader.Found.{Found}
 use Rattle.event_file.specs.declared.reader.Stepped.{Stepped}
+use Rattle.event_file.proofs.HeldFile.{B, D, L}
 use Rattle.event_file.proofs.Loan.{Kept, lends, takes-back}
 use Rattle.event_file.proofs.lent.Reader as T
 use Rattle.event_file.proofs.lent.Reader.Laws as T′
@@ -121,23 +121,11 @@ module _ {M : Type 1} (𝓤 : URA M) (H : Heap 𝓤) (A : Atoms 𝓤) (W : Given
   abbrev Own : Fml
   Own = ShrSlice (named 0) κ u8 .own s (v ∷ [])
 
-  -- the reader's type behind a reference, its laws, and its machine value
-  abbrev α : NamedLft
-  α = record { mir = named 1; lft = κ }
-
-  abbrev B : RattleType
-  B = T.the-row α
-
-  abbrev D : Declared
-  D = T.the-type α
-
-  abbrev L : LL.Laws D
-  L = T′.the-laws α
-
+  -- a reader's machine value
   abbrev mach : Reader → Val
-  mach h = LL.val D L h
+  mach h = LL.val (D κ) (L κ) h
 
-  -- its type as a local of a body has it
+  -- its type's lifetime, as a local of a body has it
   abbrev αᵉ : NamedLft
   αᵉ = record { mir = erased; lft = κ }
 
@@ -167,23 +155,13 @@ module _ {M : Type 1} (𝓤 : URA M) (H : Heap 𝓤) (A : Atoms 𝓤) (W : Given
     abbrev lent : RefT Reader × Unit {0}
     lent = (record { ptr = (l, 0); name = γ; now = h }, tt)
 
-    abbrev to-open : Open 𝓤 H A mem run .Ghost
-    to-open = (((ν ∷ κ, (κ, tt)), (PosShare·left q, (PosShare·right q, tt)), (meet-⊑-right (ν ∷ []) κ, tt), lent, (vptr l 0 ∷ [], tt)), tt)
+    -- `open_reader` and `next` bind and ask the same
+    abbrev to : Open 𝓤 H A mem run .Ghost
+    to = (((ν ∷ κ, (κ, tt)), (PosShare·left q, (PosShare·right q, tt)), (meet-⊑-right (ν ∷ []) κ, tt), lent, (vptr l 0 ∷ [], tt)), tt)
 
-    abbrev to-next : Next 𝓤 H A mem run .Ghost
-    to-next = (((ν ∷ κ, (κ, tt)), (PosShare·left q, (PosShare·right q, tt)), (meet-⊑-right (ν ∷ []) κ, tt), lent, (vptr l 0 ∷ [], tt)), tt)
-
-    abbrev Asked : SProp 𝓤
-    Asked = sep 𝓤 (A .lft (ν ∷ κ) (PosShare·left q)) (sep 𝓤 (A .lft κ (PosShare·right q)) (sem 𝓤 H A (MutRef (named 0) (ν ∷ κ) B .own (lent .0) (vptr l 0 ∷ []))))
-
-    goes-open : ent 𝓤 Asked (Open 𝓤 H A mem run .pre to-open)
-    goes-open =
-        qed W (‵ (flft (ν ∷ κ) (PosShare·left q)) ∷ ‵ (flft κ (PosShare·right q)) ∷ ‵ (MutRef (named 0) (ν ∷ κ) B .own (lent .0) (vptr l 0 ∷ [])) ∷ []) ∵
-        nothing ! $ move ! (2 ∷ 0 ∷ []) $ join ! $ move ! (1 ∷ 0 ∷ []) $ join ! $ nothing ! $ move ! (2 ∷ 0 ∷ []) $ fjoin ! $ move ! (1 ∷ 0 ∷ []) $ join ! $ frame ! $ done !
-
-    goes-next : ent 𝓤 Asked (Next 𝓤 H A mem run .pre to-next)
-    goes-next =
-        qed W (‵ (flft (ν ∷ κ) (PosShare·left q)) ∷ ‵ (flft κ (PosShare·right q)) ∷ ‵ (MutRef (named 0) (ν ∷ κ) B .own (lent .0) (vptr l 0 ∷ [])) ∷ []) ∵
+    goes : ent 𝓤 (sep 𝓤 (A .lft (ν ∷ κ) (PosShare·left q)) (sep 𝓤 (A .lft κ (PosShare·right q)) (sem 𝓤 H A (MutRef (named 0) (ν ∷ κ) (B κ) .own (lent .0) (vptr l 0 ∷ []))))) (Open 𝓤 H A mem run .pre to)
+    goes =
+        qed W (‵ (flft (ν ∷ κ) (PosShare·left q)) ∷ ‵ (flft κ (PosShare·right q)) ∷ ‵ (MutRef (named 0) (ν ∷ κ) (B κ) .own (lent .0) (vptr l 0 ∷ [])) ∷ []) ∵
         nothing ! $ move ! (2 ∷ 0 ∷ []) $ join ! $ move ! (1 ∷ 0 ∷ []) $ join ! $ nothing ! $ move ! (2 ∷ 0 ∷ []) $ fjoin ! $ move ! (1 ∷ 0 ∷ []) $ join ! $ frame ! $ done !
 
   module _ (C : Calls 𝓤 H) (Λ : Loops 𝓤 H) (fm : FmC 𝓤 H (W .laws) C) (known-over : Triple 𝓤 (C #over) (Over 𝓤 H A mem run)) (known-open : Triple 𝓤 (C #open-reader) (Open 𝓤 H A mem run)) (known-next : Triple 𝓤 (C #next) (Next 𝓤 H A mem run)) where
@@ -193,21 +171,21 @@ module _ {M : Type 1} (𝓤 : URA M) (H : Heap 𝓤) (A : Atoms 𝓤) (W : Given
         alloc1 ! (λ l₀. alloc1 ! (λ l₁. alloc1 ! (λ l₂. alloc1 ! (λ l₃. alloc1 ! (λ l₄. alloc1 ! (λ l₅. alloc1 ! (λ l₆. alloc1 ! (λ l₇. alloc1 ! (λ l₈. alloc0 ! $ params1 ! $ pass1 ! (init ! 14 refl (shr-slice-lawful 𝓤 H A W (named 0) κ u8 .typed s (v ∷ []) p .0)) $ pass0 ! $
         move ! (18 ∷ []) $ use1 W (raw (Over 𝓤 H A mem run .pre to-over) ⊛ ‵ Own) goes-over $ split ! $
         calls-at ! fm (Over 𝓤 H A mem run) known-over to-over (and-then ! (load ! (from ! (stop !)) (look ! 16 refl)) (no-more !)) (λ u₀.
-        use1 W (later (some (λ (r : Reader). ((‵ (flft κ q) ⊛ ‵ ftrue) ⊛ ‵ (B .own r (u₀ ∷ []))) ⊛ raw (ensured 𝓤 H A over.ended (over.clauses 𝓤 H A mem run) (κ, tt) (s, tt) tt r)))) (id⊢ 𝓤 _) $ await ! tt $ pick ! (λ h₀.
+        use1 W (later (some (λ (r : Reader). ((‵ (flft κ q) ⊛ ‵ ftrue) ⊛ ‵ (B κ .own r (u₀ ∷ []))) ⊛ raw (ensured 𝓤 H A over.ended (over.clauses 𝓤 H A mem run) (κ, tt) (s, tt) tt r)))) (id⊢ 𝓤 _) $ await ! tt $ pick ! (λ h₀.
         split ! $ move ! (1 ∷ []) $ use1 W (raw (fact 𝓤 ((h₀ .file ≡ s) × (h₀ .offset ≡ 0)))) (over-said h₀) $ heard ! ((h₀ .file ≡ s) × (h₀ .offset ≡ 0)) (λ e₀. split ! $ split ! $ move ! (1 ∷ []) $ drop ! $ move ! (1 ∷ 0 ∷ []) $
         -- [what the reader owns; the token; what s owns; _8; …; _7; …; _6; …; _5; …; room for _4; …; _3; …; room for _2; …; _1; …; room for _0; …]
-        peeks ! B (Is B) (shows 𝓤 H A B) h₀ (u₀ ∷ []) (λ is₀.
+        peeks ! (B κ) (Is (B κ)) (shows 𝓤 H A (B κ)) h₀ (u₀ ∷ []) (λ is₀.
         land ! (from ! (stop !)) (init ! 11 refl (LL.lawful (T.the-type αᵉ) (T′.the-laws αᵉ) 𝓤 H A W .typed h₀ _ is₀ .0)) $
         assigns ! (of-opd ! (load ! (from ! (stop !)) (look ! 11 refl))) (from ! (stop !)) (init ! 15 refl (LL.lawful (T.the-type αᵉ) (T′.the-laws αᵉ) 𝓤 H A W .typed h₀ _ is₀ .0)) $
-        rewrite ! 15 (λ (w : Val). ‵ (fat fullShare (T′.mir erased) l₂ 0 w)) (ap only (LL.tells D L h₀ _ is₀)) refl $ rewrite ! 0 (λ (ws : List Val). ‵ (B .own h₀ ws)) (LL.tells D L h₀ _ is₀) refl $
+        rewrite ! 15 (λ (w : Val). ‵ (fat fullShare (T′.mir erased) l₂ 0 w)) (ap only (LL.tells (D κ) (L κ) h₀ _ is₀)) refl $ rewrite ! 0 (λ (ws : List Val). ‵ (B κ .own h₀ ws)) (LL.tells (D κ) (L κ) h₀ _ is₀) refl $
         assigns ! (addr ! (from ! (stop !))) (from ! (stop !)) (init ! 7 refl (tt, tt)) $
         -- the reader is lent to `open_reader`
-        move ! (15 ∷ 0 ∷ 1 ∷ []) $ use1 W (‵ (cellAt fullShare (B .mir) (mach h₀ ∷ []) l₂ 0)) (W .laws .at-raw fullShare (T′.mir erased) l₂ 0 (mach h₀)) $
-        use3 W (later (some (λ (ν : ℕ). some (λ (γ : GName). ‵ (flft (ν ∷ κ) (PosShare·left q)) ⊛ ‵ (flft κ (PosShare·right q)) ⊛ ‵ (MutRef (named 0) (ν ∷ κ) B .own (lent l₂ h₀ ν γ .0) (vptr l₂ 0 ∷ [])) ⊛ raw (Kept 𝓤 H A W B κ q l₂ 0 ν γ))))) (lends 𝓤 H A W B κ q l₂ 0 h₀ (mach h₀ ∷ [])) $ await ! tt $ pick ! (λ ν₁. pick ! (λ γ₁.
+        move ! (15 ∷ 0 ∷ 1 ∷ []) $ use1 W (‵ (cellAt fullShare (B κ .mir) (mach h₀ ∷ []) l₂ 0)) (W .laws .at-raw fullShare (T′.mir erased) l₂ 0 (mach h₀)) $
+        use3 W (later (some (λ (ν : ℕ). some (λ (γ : GName). ‵ (flft (ν ∷ κ) (PosShare·left q)) ⊛ ‵ (flft κ (PosShare·right q)) ⊛ ‵ (MutRef (named 0) (ν ∷ κ) (B κ) .own (lent l₂ h₀ ν γ .0) (vptr l₂ 0 ∷ [])) ⊛ raw (Kept 𝓤 H A W (B κ) κ q l₂ 0 ν γ))))) (lends 𝓤 H A W (B κ) κ q l₂ 0 h₀ (mach h₀ ∷ [])) $ await ! tt $ pick ! (λ ν₁. pick ! (λ γ₁.
         split ! $ move ! (1 ∷ []) $ split ! $ move ! (1 ∷ []) $ split ! $ move ! (3 ∷ 2 ∷ 0 ∷ []) $
-        use3 W (raw (Open 𝓤 H A mem run .pre (to-open l₂ h₀ ν₁ γ₁))) (goes-open l₂ h₀ ν₁ γ₁) $
+        use3 W (raw (Open 𝓤 H A mem run .pre (to l₂ h₀ ν₁ γ₁))) (goes l₂ h₀ ν₁ γ₁) $
         -- [what `open_reader` asks; what the lender keeps; what s owns; _8; …; _7; …; _6; …; room for _5; …; _4; …; _3; …; _2's end; _1; …; room for _0; …]
-        calls-at ! fm (Open 𝓤 H A mem run) known-open (to-open l₂ h₀ ν₁ γ₁) (and-then ! (load ! (from ! (stop !)) (look ! 7 refl)) (no-more !)) (λ u₁.
+        calls-at ! fm (Open 𝓤 H A mem run) known-open (to l₂ h₀ ν₁ γ₁) (and-then ! (load ! (from ! (stop !)) (look ! 7 refl)) (no-more !)) (λ u₁.
         use1 W (later (some (λ (n : ℕ). ((‵ (flft (ν₁ ∷ κ) (PosShare·left q)) ⊛ ‵ (flft κ (PosShare·right q)) ⊛ ‵ ftrue) ⊛ ‵ (u8 .own n (u₁ ∷ []))) ⊛ raw (ensured 𝓤 H A open-reader.ended (open-reader.clauses 𝓤 H A mem run) (ν₁ ∷ κ, (κ, tt)) (lent l₂ h₀ ν₁ γ₁) tt n)))) (id⊢ 𝓤 _) $ await ! tt $ pick ! (λ n.
         split ! $ move ! (1 ∷ []) $ use1 W (some (λ (ws : Reader × Unit {0}). ‵ (lasts open-reader.ended (ν₁ ∷ κ, (κ, tt)) (lent l₂ h₀ ν₁ γ₁) ws) ⊛ raw (fact 𝓤 (Opened h₀ n (ws .0))))) (id⊢ 𝓤 _) $ pick ! (λ ws₁.
         split ! $ move ! (1 ∷ []) $ heard ! (Opened h₀ n (ws₁ .0)) (λ e₁. fsplit ! $ move ! (1 ∷ []) $ drop ! $ move ! (1 ∷ []) $ split ! $ move ! (1 ∷ []) $
@@ -216,12 +194,12 @@ module _ {M : Type 1} (𝓤 : URA M) (H : Heap 𝓤) (A : Atoms 𝓤) (W : Given
         land ! (from ! (stop !)) (init ! 11 refl (uint-lawful 𝓤 H A W w8 .typed n _ is₁ .0)) $ drop ! $
         -- the reader is taken back, and lent to `next`
         split ! $ move ! (1 ∷ []) $ split ! $ move ! (1 ∷ []) $ drop ! $ move ! (3 ∷ 2 ∷ []) $ join ! $ move ! (2 ∷ 1 ∷ []) $
-        use3 W (later (‵ (cellAt fullShare (B .mir) (mach (ws₁ .0) ∷ []) l₂ 0) ⊛ ‵ (B .own (ws₁ .0) (mach (ws₁ .0) ∷ [])) ⊛ ‵ (flft κ q))) (takes-back 𝓤 H A W B κ q l₂ 0 (Is B) (shows 𝓤 H A B) (LL.vals D L) (LL.tells D L) ν₁ γ₁ (ws₁ .0)) $ await ! tt $
+        use3 W (later (‵ (cellAt fullShare (B κ .mir) (mach (ws₁ .0) ∷ []) l₂ 0) ⊛ ‵ (B κ .own (ws₁ .0) (mach (ws₁ .0) ∷ [])) ⊛ ‵ (flft κ q))) (takes-back 𝓤 H A W (B κ) κ q l₂ 0 (Is (B κ)) (shows 𝓤 H A (B κ)) (LL.vals (D κ) (L κ)) (LL.tells (D κ) (L κ)) ν₁ γ₁ (ws₁ .0)) $ await ! tt $
         split ! $ move ! (1 ∷ []) $ split ! $ move ! (2 ∷ []) $ assigns ! (addr ! (from ! (stop !))) (from ! (stop !)) (init ! 6 refl (tt, tt)) $
-        use3 W (later (some (λ (ν : ℕ). some (λ (γ : GName). ‵ (flft (ν ∷ κ) (PosShare·left q)) ⊛ ‵ (flft κ (PosShare·right q)) ⊛ ‵ (MutRef (named 0) (ν ∷ κ) B .own (lent l₂ (ws₁ .0) ν γ .0) (vptr l₂ 0 ∷ [])) ⊛ raw (Kept 𝓤 H A W B κ q l₂ 0 ν γ))))) (lends 𝓤 H A W B κ q l₂ 0 (ws₁ .0) (mach (ws₁ .0) ∷ [])) $ await ! tt $ pick ! (λ ν₂. pick ! (λ γ₂.
+        use3 W (later (some (λ (ν : ℕ). some (λ (γ : GName). ‵ (flft (ν ∷ κ) (PosShare·left q)) ⊛ ‵ (flft κ (PosShare·right q)) ⊛ ‵ (MutRef (named 0) (ν ∷ κ) (B κ) .own (lent l₂ (ws₁ .0) ν γ .0) (vptr l₂ 0 ∷ [])) ⊛ raw (Kept 𝓤 H A W (B κ) κ q l₂ 0 ν γ))))) (lends 𝓤 H A W (B κ) κ q l₂ 0 (ws₁ .0) (mach (ws₁ .0) ∷ [])) $ await ! tt $ pick ! (λ ν₂. pick ! (λ γ₂.
         split ! $ move ! (1 ∷ []) $ split ! $ move ! (1 ∷ []) $ split ! $ move ! (3 ∷ 2 ∷ 0 ∷ []) $
-        use3 W (raw (Next 𝓤 H A mem run .pre (to-next l₂ (ws₁ .0) ν₂ γ₂))) (goes-next l₂ (ws₁ .0) ν₂ γ₂) $
-        calls-at ! fm (Next 𝓤 H A mem run) known-next (to-next l₂ (ws₁ .0) ν₂ γ₂) (and-then ! (load ! (from ! (stop !)) (look ! 5 refl)) (no-more !)) (λ u₂.
+        use3 W (raw (Next 𝓤 H A mem run .pre (to l₂ (ws₁ .0) ν₂ γ₂))) (goes l₂ (ws₁ .0) ν₂ γ₂) $
+        calls-at ! fm (Next 𝓤 H A mem run) known-next (to l₂ (ws₁ .0) ν₂ γ₂) (and-then ! (load ! (from ! (stop !)) (look ! 5 refl)) (no-more !)) (λ u₂.
         use1 W (later (some (λ (f : Found). ((‵ (flft (ν₂ ∷ κ) (PosShare·left q)) ⊛ ‵ (flft κ (PosShare·right q)) ⊛ ‵ ftrue) ⊛ ‵ (F.the-row .own f (u₂ ∷ []))) ⊛ raw (ensured 𝓤 H A next.ended (next.clauses 𝓤 H A mem run) (ν₂ ∷ κ, (κ, tt)) (lent l₂ (ws₁ .0) ν₂ γ₂) tt f)))) (id⊢ 𝓤 _) $ await ! tt $ pick ! (λ f.
         split ! $ move ! (1 ∷ []) $ use1 W (some (λ (ws : Reader × Unit {0}). ‵ (lasts next.ended (ν₂ ∷ κ, (κ, tt)) (lent l₂ (ws₁ .0) ν₂ γ₂) ws) ⊛ raw (fact 𝓤 (Moved (ws₁ .0) f (ws .0))))) (id⊢ 𝓤 _) $ pick ! (λ ws₂.
         split ! $ move ! (1 ∷ []) $ heard ! (Moved (ws₁ .0) f (ws₂ .0)) (λ e₂. fsplit ! $ move ! (1 ∷ []) $ drop ! $ move ! (1 ∷ []) $ split ! $ move ! (1 ∷ []) $
@@ -231,16 +209,16 @@ module _ {M : Type 1} (𝓤 : URA M) (H : Heap 𝓤) (A : Atoms 𝓤) (W : Given
         rewrite ! 15 (λ (w : Val). ‵ (fat fullShare F′.mir l₃ 0 w)) (ap only (EL.tells F.the-type F′.the-laws f _ is₂)) refl $ rewrite ! 0 (λ (ws : List Val). ‵ (F.the-row .own f ws)) (EL.tells F.the-type F′.the-laws f _ is₂) refl $
         -- the reader is taken back, and its offset read
         move ! (1 ∷ []) $ split ! $ move ! (1 ∷ []) $ split ! $ move ! (1 ∷ []) $ drop ! $ move ! (4 ∷ 3 ∷ []) $ join ! $ move ! (2 ∷ 1 ∷ []) $
-        use3 W (later (‵ (cellAt fullShare (B .mir) (mach (ws₂ .0) ∷ []) l₂ 0) ⊛ ‵ (B .own (ws₂ .0) (mach (ws₂ .0) ∷ [])) ⊛ ‵ (flft κ q))) (takes-back 𝓤 H A W B κ q l₂ 0 (Is B) (shows 𝓤 H A B) (LL.vals D L) (LL.tells D L) ν₂ γ₂ (ws₂ .0)) $ await ! tt $
+        use3 W (later (‵ (cellAt fullShare (B κ .mir) (mach (ws₂ .0) ∷ []) l₂ 0) ⊛ ‵ (B κ .own (ws₂ .0) (mach (ws₂ .0) ∷ [])) ⊛ ‵ (flft κ q))) (takes-back 𝓤 H A W (B κ) κ q l₂ 0 (Is (B κ)) (shows 𝓤 H A (B κ)) (LL.vals (D κ) (L κ)) (LL.tells (D κ) (L κ)) ν₂ γ₂ (ws₂ .0)) $ await ! tt $
         split ! $ use1 W (‵ (fat fullShare (T′.mir erased) l₂ 0 (mach (ws₂ .0)))) (W .laws .raw-at fullShare (T′.mir erased) l₂ 0 (mach (ws₂ .0))) $ move ! (1 ∷ []) $ split ! $
-        peeks ! B (Is B) (shows 𝓤 H A B) (ws₂ .0) (mach (ws₂ .0) ∷ []) (λ is₃. drop ! $
+        peeks ! (B κ) (Is (B κ)) (shows 𝓤 H A (B κ)) (ws₂ .0) (mach (ws₂ .0) ∷ []) (λ is₃. drop ! $
         -- [the token; _2; what the answer owns; what s owns; _8; …; _7; …; _6; …; _5; …; _4; …; _3; …; _2's end; _1; …; room for _0; …]
-        assigns ! (of-opd ! (load ! (from ! (fld ! refl (stop !))) (look-in ! 1 (sub ! 1 refl (whole !))))) (from ! (stop !)) (init ! 4 refl (tt, record { fits = LL.owed D L (ws₂ .0) _ is₃ .1 .0 .1 })) $
+        assigns ! (of-opd ! (load ! (from ! (fld ! refl (stop !))) (look-in ! 1 (sub ! 1 refl (whole !))))) (from ! (stop !)) (init ! 4 refl (tt, record { fits = LL.owed (D κ) (L κ) (ws₂ .0) _ is₃ .1 .0 .1 })) $
         assigns ! (agg ! (and-then ! (load ! (from ! (stop !)) (look ! 14 refl)) (and-then ! (load ! (from ! (stop !)) (look ! 4 refl)) (no-more !)))) (from ! (stop !))
-        (init ! 19 refl (LL.lawful S.the-type S′.the-laws 𝓤 H A W .typed (record { found = f; offset = ws₂ .0 .offset }) _ (LL.owes S.the-type S′.the-laws (record { found = f; offset = ws₂ .0 .offset }) (EL.owes F.the-type F′.the-laws f (EL.owed F.the-type F′.the-laws f _ is₂), LL.owed D L (ws₂ .0) _ is₃ .1)) .0)) $
+        (init ! 19 refl (LL.lawful S.the-type S′.the-laws 𝓤 H A W .typed (record { found = f; offset = ws₂ .0 .offset }) _ (LL.owes S.the-type S′.the-laws (record { found = f; offset = ws₂ .0 .offset }) (EL.owes F.the-type F′.the-laws f (EL.owed F.the-type F′.the-laws f _ is₂), LL.owed (D κ) (L κ) (ws₂ .0) _ is₃ .1)) .0)) $
         returns ! (look ! 19 refl) $ forget ! 1 refl $ forget ! 4 refl $ forget ! 6 refl $ forget ! 8 refl $ forget ! 10 refl $ forget ! 12 refl $ forget ! 14 refl $ forget ! 17 refl $ forget ! 19 refl $
         move ! (19 ∷ 20 ∷ []) $ free1 ! $ move ! (17 ∷ 18 ∷ []) $ free1 ! $ move ! (1 ∷ 16 ∷ []) $ free1 ! $ move ! (13 ∷ 14 ∷ []) $ free1 ! $ move ! (11 ∷ 12 ∷ []) $ free1 ! $ move ! (9 ∷ 10 ∷ []) $ free1 ! $ move ! (7 ∷ 8 ∷ []) $ free1 ! $ move ! (5 ∷ 6 ∷ []) $ free1 ! $ move ! (3 ∷ 4 ∷ []) $ free1 ! $ free0 ! $
-        keep ! (1 ∷ 0 ∷ 2 ∷ []) $ by ! (exits f (ws₂ .0 .offset) (LL.owed D L (ws₂ .0) _ is₃ .1 .0 .1) (first s h₀ (ws₁ .0) (ws₂ .0) n f (e₀ .0) e₁ e₂))))))))))))))))))))))))))))))
+        keep ! (1 ∷ 0 ∷ 2 ∷ []) $ by ! (exits f (ws₂ .0 .offset) (LL.owed (D κ) (L κ) (ws₂ .0) _ is₃ .1 .0 .1) (first s h₀ (ws₁ .0) (ws₂ .0) n f (e₀ .0) e₁ e₂))))))))))))))))))))))))))))))
 
 module _ {M : Type 1} (𝓤 : URA M) (H : Heap 𝓤) (A : Atoms 𝓤) (W : Given 𝓤 H A) (mem : Memory → SProp 𝓤) (run : Routine → Fun 𝓤) where
   first-event-walks : (C : Calls 𝓤 H) (Λ : Loops 𝓤 H) → FmC 𝓤 H (W .laws) C → Triple 𝓤 (C #over) (Over 𝓤 H A mem run) → Triple 𝓤 (C #open-reader) (Open 𝓤 H A mem run) → Triple 𝓤 (C #next) (Next 𝓤 H A mem run)
