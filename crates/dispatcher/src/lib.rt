@@ -1,6 +1,10 @@
 // The stored machine of the dispatcher. Which state of document 01 it shows is said in specs/Shown.antt.
 ghost use mathlib.Core.Path.{_≡_};
 ghost use Rattle.dispatcher.specs.Shown.{emptyMachine};
+
+mod numbers;
+mod walk;
+
 use rules::Running;
 use rules::Thread;
 use rules::Timeslice;
