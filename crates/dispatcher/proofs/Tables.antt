@@ -1,10 +1,36 @@
 -- Reading and writing the tables.
-use Prim.Native.Nat.{ℕ, _≤_}
-use mathlib.Core.Path.{_≡_}
-use mathlib.Core.List.{List}
+use Prim.Native.Nat.{ℕ, zero, suc, _≤_, _<_}
+use mathlib.Core.Path.{_≡_, refl, ap, sym, _∙_}
+use mathlib.Core.List.{List, [], _∷_, map}
 use native.Mathlib.Omega.{arith}
-use lib.ListN.{length, getD, List·getD-eq-default}
+use lib.ListN.{length, getD, set, take, drop, length-take, drop-of-length-le, List·getD-eq-default, List·getD-map}
+use lib.Seq.{drop-cons, getD-take}
+use Rattle.rules.specs.declared.Timeslice.{Timeslice}
+use Rattle.rules.specs.State.{priorityAt, ownerAt, sliceAt, placeAt}
+use Rattle.dispatcher.specs.Shown.{sliceOf, placeOf, freeTimeslice}
 
 -- past the end stands the free value
 pub past : {A : Type 0} (l : List A) (k i : ℕ) (free : A) → length l ≡ 128 → k ≡ i → 128 ≤ k → getD l i free ≡ free
 past l k i free full e out = List·getD-eq-default l free (omega arith)
+
+-- what a stored timeslice shows
+pub slice-at : (ts : List Timeslice) (t : ℕ) → sliceAt (map sliceOf ts) t ≡ sliceOf (getD ts t freeTimeslice)
+slice-at ts t = List·getD-map sliceOf ts t freeTimeslice
+
+pub place-at : (ts : List Timeslice) (t : ℕ) → placeAt (map placeOf ts) t ≡ getD ts t freeTimeslice .place
+place-at ts t = List·getD-map placeOf ts t freeTimeslice
+
+-- the map of a table after a store
+pub map-set : {A B : Type 0} (f : A → B) (l : List A) (i : ℕ) (a : A) → map f (set l i a) ≡ set (map f l) i (f a)
+map-set f [] i a = refl
+map-set f (x ∷ l) zero a = refl
+map-set f (x ∷ l) (suc i) a = ap (λ m. f x ∷ m) (map-set f l i a)
+
+-- the turn order from place i on begins with what stands there
+pub turn : (l : List ℕ) (n i : ℕ) → length l ≡ 128 → n ≤ 128 → i < n → drop i (take n l) ≡ getD l i 0 ∷ drop (suc i) (take n l)
+turn l n i full fits short =
+    let inside : i < length (take n l) = simp length-take (omega arith) in
+    drop-cons (take n l) i 0 inside ∙ ap (λ (t : ℕ). t ∷ drop (suc i) (take n l)) (getD-take n l i 0 short)
+
+pub turns-out : (l : List ℕ) (n : ℕ) → drop n (take n l) ≡ []
+turns-out l n = drop-of-length-le (take n l) {i = n} (simp length-take (omega arith))
