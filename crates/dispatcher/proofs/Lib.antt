@@ -1,3 +1,4 @@
 pub mod Tables
 pub mod Walks
 pub mod Searches
+pub mod Releases

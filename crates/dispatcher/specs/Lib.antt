@@ -1,3 +1,4 @@
 pub mod Shown
 pub mod Sets
 pub mod Search
+pub mod Releasing

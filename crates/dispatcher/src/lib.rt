@@ -4,6 +4,7 @@ ghost use Rattle.dispatcher.specs.Shown.{emptyMachine};
 
 mod numbers;
 mod order;
+mod release;
 mod walk;
 
 use rules::Running;

@@ -1,0 +1,106 @@
+-- The release as a loop along the turn order: what is left to release from here gives the places of the whole.
+use Prim.Native.Nat.{ℕ, zero, suc, _+_, _≤_, _<_}
+use mathlib.Core.Path.{_≡_, refl, sym, _∙_, ap, ap₂}
+use mathlib.Core.List.{List, [], _∷_, map}
+use mathlib.Core.Bool.{Bool}
+use mathlib.Core.Option.{Option, none, some}
+use native.Mathlib.Omega.{arith}
+use native.Mathlib.Numerals.{add-one}
+use lib.ListN.{length, getD, set, take, drop, length-set, length-map}
+use lib.Seq.{map-set-same, set-out}
+use Rattle.rules.specs.declared.Place.{Place}
+use Rattle.rules.specs.declared.Timeslice.{Timeslice}
+use Rattle.rules.specs.State.{Slice, State, placeAt, withPlaces}
+use Rattle.rules.specs.Order.{topmost}
+use Rattle.dispatcher.specs.declared.order.Found.{Found}
+use Rattle.dispatcher.specs.declared.order.Found.the-variants.{Nothing, At}
+use Rattle.rules.specs.Release.{releasedPlace, releasedPlaces, release, releaseTo, topmostAt}
+use Rattle.dispatcher.specs.Shown.{sliceOf, placeOf, freeTimeslice}
+use Rattle.dispatcher.specs.Sets.{withPlace, found}
+use Rattle.dispatcher.specs.Releasing.{releasedFrom, placesAfter, Replaced}
+use Rattle.dispatcher.proofs.Tables.{place-at, map-set, turn, turns-out}
+
+-- at entry i of the turn order
+pub record Moving (at : Place → Bool) (q n : ℕ) (order : List ℕ) (before now : List Timeslice) (i : ℕ) : Type 0 where
+  pub inside : i ≤ n
+  pub full : length now ≡ 128
+  pub slices : map sliceOf now ≡ map sliceOf before
+  pub rest : releasedPlaces at q (drop i (take n order)) (map placeOf now) ≡ releasedPlaces at q (take n order) (map placeOf before)
+
+module _ (at : Place → Bool) (q n : ℕ) (order : List ℕ) (before now : List Timeslice) (i : ℕ) (full : length order ≡ 128) (fits : n ≤ 128)
+    (m : Moving at q n order before now i) (short : i < n) where
+  abbrev t : ℕ
+  t = getD order i 0
+
+  next : releasedPlaces at q (drop (suc i) (take n order)) (set (map placeOf now) t (releasedPlace at q t (placeAt (map placeOf now) t)))
+      ≡ releasedPlaces at q (take n order) (map placeOf before)
+  unfolding releasedPlaces
+  next = rw (turn order n i full fits short) at (m .rest)
+
+  -- one timeslice is moved
+  pub move : (k : ℕ) (y : Timeslice) → k ≡ t → y ≡ withPlace (releasedPlace at q t (getD now k freeTimeslice .place)) (getD now k freeTimeslice)
+      → Moving at q n order before (set now k y) (i + 1)
+  move k y e new =
+      let x = getD now k freeTimeslice in
+      let place : releasedPlace at q t (x .place) ≡ releasedPlace at q t (placeAt (map placeOf now) t) =
+      ap (releasedPlace at q t) (sym (place-at now k) ∙ ap (placeAt (map placeOf now)) e) in
+      let stored : map placeOf (set now k y) ≡ set (map placeOf now) t (releasedPlace at q t (placeAt (map placeOf now) t)) =
+      map-set placeOf now k y ∙ ap (λ (p : Place). set (map placeOf now) k p) (ap placeOf new ∙ place)
+      ∙ ap (λ (j : ℕ). set (map placeOf now) j (releasedPlace at q t (placeAt (map placeOf now) t))) e in
+      record {
+        inside = omega (arith, short);
+        full = length-set now k y ∙ m .full;
+        slices = map-set-same sliceOf now k y freeTimeslice (ap sliceOf new) ∙ m .slices;
+        rest = rw (add-one, stored) next;
+      }
+
+  -- an entry that is no timeslice's number moves nothing
+  pub skip : (k : ℕ) → k ≡ t → 128 ≤ k → Moving at q n order before now (i + 1)
+  skip k e out =
+      let same = set-out (map placeOf now) t (releasedPlace at q t (placeAt (map placeOf now) t)) (rw length-map (omega (arith, m .full, e))) in
+      record { inside = omega (arith, short); full = m .full; slices = m .slices; rest = rw add-one (rw same at next) }
+
+pub begin : (at : Place → Bool) (q n : ℕ) (order : List ℕ) (ts : List Timeslice) → length ts ≡ 128 → Moving at q n order ts ts 0
+begin at q n order ts full = record { inside = omega arith; full = full; slices = refl; rest = refl }
+
+pub done : (at : Place → Bool) (q n : ℕ) (order : List ℕ) (before now : List Timeslice) (i : ℕ) → Moving at q n order before now i → n ≤ i
+    → Replaced before (releasedPlaces at q (take n order) (map placeOf before)) now
+unfolding releasedPlaces
+done at q n order before now i m out =
+    let e : i ≡ n = omega (arith, m .inside) in
+    record { slices = m .slices; places = rw (e, turns-out order n) at (m .rest) }
+
+-- the release of document 01 changes the places alone
+pub release-is : (at : Place → Bool) (s : State) → release at s ≡ withPlaces (placesAfter at (s .slices) (s .order) (s .places)) s
+unfolding release
+release-is at s = go (topmostAt at s)
+  where
+    go : (o : Option ℕ) → releaseTo at s o ≡ withPlaces (releasedFrom at (s .order) (s .places) o) s
+    go none = refl
+    go (some q) = refl
+
+-- a search that found nothing, or the topmost one
+module _ (at : Place → Bool) (ss : List Slice) (order : List ℕ) (ps : List Place) (f : Found)
+    (e : found f ≡ topmost ss (λ t. at (placeAt ps t)) order) where
+  pub nobody : f ≡ Nothing → ps ≡ placesAfter at ss order ps
+  nobody h = ap (λ (g : Found). releasedFrom at order ps (found g)) (sym h) ∙ ap (releasedFrom at order ps) e
+
+  pub somebody : (q : ℕ) → f ≡ At q → releasedPlaces at q order ps ≡ placesAfter at ss order ps
+  somebody q h = ap (λ (g : Found). releasedFrom at order ps (found g)) (sym h) ∙ ap (releasedFrom at order ps) e
+
+-- a timeslice is put at a place before the release, or is none
+module _ (at : Place → Bool) (ts : List Timeslice) (order : List ℕ) (k t : ℕ) (p : Place) (after : List Timeslice) where
+  pub put : k ≡ t
+      → Replaced (set ts k (withPlace p (getD ts k freeTimeslice))) (placesAfter at (map sliceOf (set ts k (withPlace p (getD ts k freeTimeslice)))) order (map placeOf (set ts k (withPlace p (getD ts k freeTimeslice))))) after
+      → Replaced ts (placesAfter at (map sliceOf ts) order (set (map placeOf ts) t p)) after
+  put e r =
+      let y = withPlace p (getD ts k freeTimeslice) in
+      let slices : map sliceOf (set ts k y) ≡ map sliceOf ts = map-set-same sliceOf ts k y freeTimeslice refl in
+      let places : map placeOf (set ts k y) ≡ set (map placeOf ts) t p = map-set placeOf ts k y ∙ ap (λ (j : ℕ). set (map placeOf ts) j p) e in
+      record { slices = r .slices ∙ slices; places = r .places ∙ ap₂ (λ ss ps. placesAfter at ss order ps) slices places }
+
+  pub put-none : length ts ≡ 128 → k ≡ t → 128 ≤ k → Replaced ts (placesAfter at (map sliceOf ts) order (map placeOf ts)) after
+      → Replaced ts (placesAfter at (map sliceOf ts) order (set (map placeOf ts) t p)) after
+  put-none full e out r =
+      let same = set-out (map placeOf ts) t p (rw length-map (omega arith)) in
+      record { slices = r .slices; places = r .places ∙ ap (placesAfter at (map sliceOf ts) order) (sym same) }

@@ -1,0 +1,34 @@
+use mathlib.Core.Path.{refl, _∙_, sym}
+use lib.ListN.{take}
+use Rattle.dispatcher.specs.Sets.{setOf}
+use Rattle.dispatcher.proofs.Releases.{nobody, somebody}
+use borrow.Author.Needs.{needs}
+use native.Mathlib.Omega.{arith}
+use Rattle.dispatcher.proofs.release.release.Statement.{statement}
+use Rattle.dispatcher.proofs.release.release.Tie as tie
+
+topmost-requires : tie.Need-topmost-requires
+topmost-requires c κs = c .pre
+
+enum-told : tie.Need-enum-told
+enum-told c = search needs
+
+enum-known-first : tie.Need-enum-known-first
+enum-known-first c = search needs
+
+released-requires : tie.Need-released-requires
+released-requires c κs = c .before .before .before .before .pre
+
+returns : tie.Need-returns
+returns c =
+    let s = c .before .before .before .args in
+    record { slices = refl; places = nobody (setOf (s .set)) _ (take (s .live) (s .order)) _ _ (c .before .before .topmost .ensures) (c .enum-told .given .1) }
+
+returns-2 : tie.Need-returns-2
+returns-2 c =
+    let s = c .before .before .before .before .before .args in
+    let r = c .released .ensures in
+    record { slices = r .slices; places = r .places ∙ somebody (setOf (s .set)) _ (take (s .live) (s .order)) _ _ (c .before .before .before .before .topmost .ensures) _ (c .before .before .first .given .1) }
+
+pub release-spec : {M : Type 1} → statement M
+release-spec = tie.close (tie.spec topmost-requires enum-told enum-known-first released-requires returns returns-2)

@@ -1,0 +1,98 @@
+// Document 01, "Release and choice": the release.
+ghost use mathlib.Core.Path.{_≡_};
+ghost use mathlib.Core.List.{map};
+ghost use Prim.Native.Nat.{_≤_};
+ghost use lib.ListN.{take, set as stored};
+ghost use Rattle.rules.specs.Release.{releasedPlace, releasedPlaces, behind};
+ghost use Rattle.dispatcher.specs.Shown.{sliceOf, placeOf};
+ghost use Rattle.dispatcher.specs.Sets.{setOf, withPlace};
+ghost use Rattle.dispatcher.specs.Releasing.{placesAfter, Replaced};
+use crate::numbers::index;
+use crate::order::Found;
+use crate::order::in_set;
+use crate::order::topmost;
+use rules::Place;
+use rules::Timeslice;
+
+// The topmost one goes to Queue, the rest of the set go Behind that one.
+pub fn moved(x: Timeslice, t: u8, set: Place, first: u8) -> Timeslice
+    ensures { λ r. ⌜ r ≡ withPlace (releasedPlace (setOf set) first t (x .place)) x ⌝ }
+{
+    let place = x.place;
+    if in_set(place, set) {
+        if t == first {
+            return Timeslice {
+                place: Place::Queue,
+                ..x
+            };
+        }
+        return Timeslice {
+            place: Place::Behind(first),
+            ..x
+        };
+    }
+    x
+}
+
+pub fn released(
+    mut timeslices: [Timeslice; 128],
+    order: [u8; 128],
+    live: u8,
+    set: Place,
+    first: u8,
+) -> [Timeslice; 128]
+    requires { ⌜ live ≤ 128 ⌝ }
+    ensures { λ r. ⌜ Replaced timeslices (releasedPlaces (setOf set) first (take live order) (map placeOf timeslices)) r ⌝ }
+{
+    let n = index(live);
+    let mut i: usize = 0;
+    while i < n {
+        let t = order[i];
+        i += 1;
+        let k = index(t);
+        if k < 128 {
+            let x = timeslices[k];
+            let y = moved(x, t, set, first);
+            timeslices[k] = y;
+        }
+    }
+    timeslices
+}
+
+// An empty set changes nothing.
+pub fn release(
+    timeslices: [Timeslice; 128],
+    order: [u8; 128],
+    live: u8,
+    set: Place,
+) -> [Timeslice; 128]
+    requires { ⌜ live ≤ 128 ⌝ }
+    ensures { λ r. ⌜ Replaced timeslices (placesAfter (setOf set) (map sliceOf timeslices) (take live order) (map placeOf timeslices)) r ⌝ }
+{
+    let first = topmost(timeslices, order, live, set);
+    match first {
+        Found::Nothing => timeslices,
+        Found::At(q) => released(timeslices, order, live, set, q),
+    }
+}
+
+// A timeslice leaves Queue for this place, and its followers are released.
+pub fn parked(
+    mut timeslices: [Timeslice; 128],
+    order: [u8; 128],
+    live: u8,
+    t: u8,
+    place: Place,
+) -> [Timeslice; 128]
+    requires { ⌜ live ≤ 128 ⌝ }
+    ensures { λ r. ⌜ Replaced timeslices (placesAfter (behind t) (map sliceOf timeslices) (take live order) (stored (map placeOf timeslices) t place)) r ⌝ }
+{
+    let k = index(t);
+    if k < 128 {
+        let x = timeslices[k];
+        let y = Timeslice { place, ..x };
+        timeslices[k] = y;
+        return release(timeslices, order, live, Place::Behind(t));
+    }
+    release(timeslices, order, live, Place::Behind(t))
+}
