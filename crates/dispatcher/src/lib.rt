@@ -5,6 +5,7 @@ ghost use Rattle.dispatcher.specs.Shown.{emptyMachine};
 mod numbers;
 mod order;
 mod release;
+mod threads;
 mod walk;
 
 use rules::Running;
