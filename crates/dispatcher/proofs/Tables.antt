@@ -5,8 +5,11 @@ use mathlib.Core.List.{List, [], _∷_, map}
 use native.Mathlib.Omega.{arith}
 use lib.ListN.{length, getD, set, take, drop, length-take, drop-of-length-le, List·getD-eq-default, List·getD-map}
 use lib.Seq.{drop-cons, getD-take}
+use Rattle.rules.specs.declared.Hold.{Hold}
+use Rattle.rules.specs.declared.Hold.the-variants.{Ready}
+use Rattle.rules.specs.declared.Thread.{Thread}
 use Rattle.rules.specs.declared.Timeslice.{Timeslice}
-use Rattle.rules.specs.State.{priorityAt, ownerAt, sliceAt, placeAt}
+use Rattle.rules.specs.State.{Slice, freeThread, holdAt, ownerAt, sliceAt, placeAt}
 use Rattle.dispatcher.specs.Shown.{sliceOf, placeOf, freeTimeslice}
 
 -- past the end stands the free value
@@ -34,3 +37,18 @@ turn l n i full fits short =
 
 pub turns-out : (l : List ℕ) (n : ℕ) → drop n (take n l) ≡ []
 turns-out l n = drop-of-length-le (take n l) {i = n} (simp length-take (omega arith))
+
+-- the owner of timeslice t, read where there is one
+pub owns : (ts : List Timeslice) (k t owner : ℕ) → k ≡ t → owner ≡ getD ts k freeTimeslice .owner → owner ≡ ownerAt (map sliceOf ts) t
+owns ts k t owner e is =
+    is ∙ ap (λ (u : ℕ). getD ts u freeTimeslice .owner) e ∙ sym (ap (λ (s : Slice). s .owner) (slice-at ts t))
+
+pub owns-none : (ts : List Timeslice) (k t owner : ℕ) → length ts ≡ 128 → k ≡ t → 128 ≤ k → owner ≡ 0 → owner ≡ ownerAt (map sliceOf ts) t
+owns-none ts k t owner full e out is = owns ts k t owner e (is ∙ sym (ap (λ (x : Timeslice). x .owner) (past ts k k freeTimeslice full refl out)))
+
+-- the hold of thread n likewise
+pub held : (ts : List Thread) (k n : ℕ) (h : Hold) → k ≡ n → h ≡ getD ts k freeThread .hold → h ≡ holdAt ts n
+held ts k n h e is = is ∙ ap (holdAt ts) e
+
+pub held-none : (ts : List Thread) (k n : ℕ) (h : Hold) → length ts ≡ 128 → k ≡ n → 128 ≤ k → h ≡ Ready → h ≡ holdAt ts n
+held-none ts k n h full e out is = held ts k n h e (is ∙ sym (ap (λ (t : Thread). t .hold) (past ts k k freeThread full refl out)))

@@ -2,3 +2,4 @@ pub mod Shown
 pub mod Sets
 pub mod Search
 pub mod Releasing
+pub mod Choosing

@@ -2,6 +2,7 @@
 ghost use mathlib.Core.Path.{_≡_};
 ghost use Rattle.dispatcher.specs.Shown.{emptyMachine};
 
+mod choice;
 mod numbers;
 mod order;
 mod release;
@@ -21,6 +22,13 @@ pub struct Machine {
     pub live_threads: u8,
     pub live_timeslices: u8,
     pub running: Running,
+}
+
+// The machine after an event, with the answer: the refusal number, 0 for none, and the links followed.
+pub struct Answered {
+    pub machine: Machine,
+    pub refusal: u8,
+    pub links: u16,
 }
 
 impl Machine {

@@ -1,0 +1,74 @@
+-- What `stored` says of a machine.
+use Prim.Native.Nat.{ℕ, _≤_}
+use mathlib.Core.Path.{_≡_, refl, sym, _∙_, ap}
+use mathlib.Core.List.{List, [], _∷_}
+use mathlib.Core.Bool.{Bool, true, _&&_, _||_}
+use lib.ListN.{length, getD, set, length-set}
+use lib.Dec.{leb, ltb, eqb}
+use borrow.Author.Tests.{eqb-true, leb-true, eq-eqb}
+use Rattle.rules.specs.declared.Hold.{Hold}
+use Rattle.rules.specs.declared.Service.{Service}
+use Rattle.rules.specs.declared.Thread.{Thread}
+use Rattle.rules.specs.Tests.{below}
+use Rattle.rules.specs.State.{limit, freeThread, threadAt, liveThreads, oneMoreIf}
+use Rattle.rules.specs.Threads.{setHold, setService, withHold, withService, donate}
+use Rattle.dispatcher.specs.declared.Machine.{Machine}
+use Rattle.dispatcher.specs.Shown.{stored}
+use Rattle.dispatcher.proofs.Tests.{and-left, and-right, both}
+
+module _ (m : Machine) (e : stored m ≡ true) where
+  abbrev counted : Bool
+  counted = eqb (m .«live_threads») (liveThreads (m .threads))
+
+  abbrev listed : Bool
+  listed = leb (m .«live_timeslices») limit
+
+  abbrev cleared : Bool
+  cleared = below limit (λ i. ltb i (m .«live_timeslices») || eqb (getD (m .order) i 0) 0)
+
+  pub live-is : m .«live_threads» ≡ liveThreads (m .threads)
+  unfolding stored
+  live-is = eqb-true _ _ (and-left counted listed (and-left (counted && listed) cleared e))
+
+  pub turns-fit : m .«live_timeslices» ≤ 128
+  unfolding stored
+  turns-fit = leb-true _ _ (and-right counted listed (and-left (counted && listed) cleared e))
+
+  -- other threads, timeslices and another running thread leave it so, where L is still true
+  pub stored-with : (n : Machine) → n .order ≡ m .order → n .«live_timeslices» ≡ m .«live_timeslices» → n .«live_threads» ≡ liveThreads (n .threads)
+      → stored n ≡ true
+  unfolding stored
+  stored-with n o t l =
+      both _ _ (both _ _ (eq-eqb _ _ l) (rw t (and-right counted listed (and-left (counted && listed) cleared e))))
+      (rw (o, t) (and-right (counted && listed) cleared e))
+
+-- a store that keeps a thread's `live` keeps L
+live-set : (ts : List Thread) (n : ℕ) (a : Thread) → a .live ≡ threadAt ts n .live → liveThreads (set ts n a) ≡ liveThreads ts
+unfolding liveThreads
+live-set [] n a e = refl
+live-set (t ∷ ts) ℕ.zero a e = ap (λ (b : Bool). oneMoreIf b (liveThreads ts)) e
+live-set (t ∷ ts) (ℕ.suc n) a e = ap (oneMoreIf (t .live)) (live-set ts n a e)
+
+pub live-hold : (n : ℕ) (h : Hold) (ts : List Thread) → liveThreads (setHold n h ts) ≡ liveThreads ts
+unfolding setHold
+live-hold n h ts = live-set ts n (withHold h (threadAt ts n)) refl
+
+pub live-service : (n : ℕ) (v : Service) (ts : List Thread) → liveThreads (setService n v ts) ≡ liveThreads ts
+unfolding setService
+live-service n v ts = live-set ts n (withService v (threadAt ts n)) refl
+
+pub live-donate : (caller server : ℕ) (ts : List Thread) → liveThreads (donate caller server ts) ≡ liveThreads ts
+unfolding donate
+live-donate caller server ts = simp (live-hold, live-service)
+
+pub length-hold : (n : ℕ) (h : Hold) (ts : List Thread) → length (setHold n h ts) ≡ length ts
+unfolding setHold
+length-hold n h ts = length-set ts n (withHold h (threadAt ts n))
+
+pub length-service : (n : ℕ) (v : Service) (ts : List Thread) → length (setService n v ts) ≡ length ts
+unfolding setService
+length-service n v ts = length-set ts n (withService v (threadAt ts n))
+
+pub length-donate : (caller server : ℕ) (ts : List Thread) → length (donate caller server ts) ≡ length ts
+unfolding donate
+length-donate caller server ts = simp (length-hold, length-service)

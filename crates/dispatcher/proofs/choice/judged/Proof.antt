@@ -1,0 +1,18 @@
+use borrow.Author.Needs.{needs}
+use Rattle.dispatcher.proofs.choice.judged.Statement.{statement}
+use Rattle.dispatcher.proofs.choice.judged.Tie as tie
+use Rattle.dispatcher.proofs.choice.judged.Reads as reads
+use Rattle.dispatcher.proofs.choice.judged.Lts as lts
+use Rattle.dispatcher.proofs.choice.at_end.Reads as at-end-reads
+
+returns : tie.Need-returns
+returns c = search needs
+
+at-end-requires : tie.Need-at-end-requires
+at-end-requires c κs = search needs
+
+returns-2 : tie.Need-returns-2
+returns-2 c = simp (← c .at-end .ensures, c .before .if1 .left)
+
+pub judged-spec : {M : Type 1} → statement M
+judged-spec = tie.close (tie.spec returns at-end-requires returns-2)

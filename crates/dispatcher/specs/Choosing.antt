@@ -1,0 +1,34 @@
+-- The choice over the stored machine.
+use Prim.Native.Nat.{ℕ, _+_, _≤_}
+use mathlib.Core.Path.{_≡_}
+use mathlib.Core.Bool.{true}
+use Rattle.rules.specs.Walk.{runs, retries, waits, stalls}
+use Rattle.rules.specs.Walk as walks
+use Rattle.rules.specs.Choice.{Outcome, choose}
+use Rattle.dispatcher.specs.declared.Machine.{Machine}
+use Rattle.dispatcher.specs.declared.Answered.{Answered}
+use Rattle.dispatcher.specs.declared.choice.Verdict.{Verdict}
+use Rattle.dispatcher.specs.declared.choice.Verdict.the-variants.{Runs, Retries, Waits, Stalls}
+use Rattle.dispatcher.specs.Shown.{shown, stored}
+
+-- what the code's verdict says
+abbrev pub verdictOf : Verdict → walks.Verdict
+verdictOf Runs = runs
+verdictOf Retries = retries
+verdictOf Waits = waits
+verdictOf Stalls = stalls
+
+-- a machine from which a choice is made, after these links
+pub record Choosable (m : Machine) (links : ℕ) : Type 0 where
+  pub exact : stored m ≡ true
+  pub few : links ≤ 128
+
+abbrev pub before : Machine → ℕ → Outcome
+before m links = record { state = shown m; links = links }
+
+-- the choice's result
+pub record Chosen (m : Machine) (first : ℕ) (r : Answered) : Type 0 where
+  pub refusal : r .refusal ≡ 0
+  pub links : r .links ≡ choose (before m first) .links
+  pub state : shown (r .machine) ≡ choose (before m first) .state
+  pub exact : stored (r .machine) ≡ true

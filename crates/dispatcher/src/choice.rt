@@ -1,0 +1,144 @@
+// Document 01, "Release and choice": the choice.
+ghost use mathlib.Core.Path.{_≡_};
+ghost use mathlib.Core.Bool.{cond};
+ghost use Prim.Native.Nat.{_+_, _≤_};
+ghost use Rattle.rules.specs.Walk.{atEnd, stalls};
+ghost use Rattle.dispatcher.specs.Choosing.{verdictOf, Choosable, Chosen};
+use crate::Answered;
+use crate::Machine;
+use crate::numbers::index;
+use crate::order::Found;
+use crate::order::topmost;
+use crate::release::parked;
+use crate::release::release;
+use crate::threads::donated;
+use crate::walk::walk;
+use rules::Hold;
+use rules::Place;
+use rules::Running;
+
+// What the end of a chain says of its timeslice.
+pub enum Verdict {
+    Runs,
+    Retries,
+    Waits,
+    Stalls,
+}
+
+pub fn at_end(hold: Hold, links: u8) -> Verdict
+    ensures { λ r. ⌜ verdictOf r ≡ atEnd hold links ⌝ }
+{
+    match hold {
+        Hold::Ready => Verdict::Runs,
+        Hold::Idle => {
+            if 0 < links {
+                return Verdict::Retries;
+            }
+            Verdict::Waits
+        }
+        Hold::Blocked => Verdict::Waits,
+        Hold::Calling(_) => Verdict::Waits,
+        Hold::Helping(_) => Verdict::Waits,
+    }
+}
+
+pub fn judged(looped: bool, hold: Hold, links: u8) -> Verdict
+    ensures { λ r. ⌜ verdictOf r ≡ cond looped stalls (atEnd hold links) ⌝ }
+{
+    if looped {
+        return Verdict::Stalls;
+    }
+    at_end(hold, links)
+}
+
+pub fn added(links: u16, more: u8) -> u16
+    requires { ⌜ links ≤ 65000 ⌝ }
+    ensures { λ r. ⌜ r ≡ links + more ⌝ }
+{
+    links + (more as u16)
+}
+
+impl Machine {
+    pub fn choose(mut self, links: u16) -> Answered
+        requires { ⌜ Choosable self links ⌝ }
+        ensures { λ r. ⌜ Chosen self links r ⌝ }
+    {
+        let live = self.live_timeslices;
+        let live_threads = self.live_threads;
+        let order = self.order;
+        let mut followed = links;
+        let mut looks = index(live) + 2;
+        while 0 < looks {
+            looks -= 1;
+            let timeslices = self.timeslices;
+            let top = topmost(timeslices, order, live, Place::Queue);
+            match top {
+                Found::Nothing => {
+                    let machine = Machine {
+                        running: Running::Nothing,
+                        ..self
+                    };
+                    return Answered {
+                        machine,
+                        refusal: 0,
+                        links: followed,
+                    };
+                }
+                Found::At(t) => {
+                    let k = index(t);
+                    let mut owner: u8 = 0;
+                    if k < 128 {
+                        let x = self.timeslices[k];
+                        owner = x.owner;
+                    }
+                    let threads = self.threads;
+                    let chain = walk(threads, live_threads, owner);
+                    let end = chain.end;
+                    let helper = chain.helper;
+                    followed = added(followed, chain.links);
+                    let e = index(end);
+                    let mut hold = Hold::Ready;
+                    if e < 128 {
+                        let z = self.threads[e];
+                        hold = z.hold;
+                    }
+                    let said = judged(chain.looped, hold, chain.links);
+                    match said {
+                        Verdict::Runs => {
+                            let running = Running::Runs {
+                                thread: end,
+                                timeslice: t,
+                                count: chain.count,
+                            };
+                            let machine = Machine { running, ..self };
+                            return Answered {
+                                machine,
+                                refusal: 0,
+                                links: followed,
+                            };
+                        }
+                        Verdict::Retries => {
+                            let next = donated(threads, helper, end);
+                            self.threads = next;
+                            let free = release(timeslices, order, live, Place::On(end));
+                            self.timeslices = free;
+                        }
+                        Verdict::Waits => {
+                            let aside = parked(timeslices, order, live, t, Place::On(end));
+                            self.timeslices = aside;
+                        }
+                        Verdict::Stalls => {
+                            let aside = parked(timeslices, order, live, t, Place::Stalled);
+                            self.timeslices = aside;
+                        }
+                    }
+                }
+            }
+        }
+        Answered {
+            machine: self,
+            refusal: 0,
+            links: followed,
+        }
+    }
+}
