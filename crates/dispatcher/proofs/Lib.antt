@@ -5,3 +5,6 @@ pub mod Releases
 pub mod Tests
 pub mod Stored
 pub mod Choices
+pub mod Along
+pub mod Shifts
+pub mod Above

@@ -9,7 +9,7 @@ use Rattle.rules.specs.declared.Hold.{Hold}
 use Rattle.rules.specs.declared.Hold.the-variants.{Ready}
 use Rattle.rules.specs.declared.Thread.{Thread}
 use Rattle.rules.specs.declared.Timeslice.{Timeslice}
-use Rattle.rules.specs.State.{Slice, freeThread, holdAt, ownerAt, sliceAt, placeAt}
+use Rattle.rules.specs.State.{Slice, freeThread, holdAt, ownerAt, priorityAt, sliceAt, placeAt}
 use Rattle.dispatcher.specs.Shown.{sliceOf, placeOf, freeTimeslice}
 
 -- past the end stands the free value
@@ -52,3 +52,11 @@ held ts k n h e is = is ∙ ap (holdAt ts) e
 
 pub held-none : (ts : List Thread) (k n : ℕ) (h : Hold) → length ts ≡ 128 → k ≡ n → 128 ≤ k → h ≡ Ready → h ≡ holdAt ts n
 held-none ts k n h full e out is = held ts k n h e (is ∙ sym (ap (λ (t : Thread). t .hold) (past ts k k freeThread full refl out)))
+
+-- the priority of timeslice t likewise
+pub ranks : (ts : List Timeslice) (k t p : ℕ) → k ≡ t → p ≡ getD ts k freeTimeslice .priority → p ≡ priorityAt (map sliceOf ts) t
+ranks ts k t p e is =
+    is ∙ ap (λ (u : ℕ). getD ts u freeTimeslice .priority) e ∙ sym (ap (λ (s : Slice). s .priority) (slice-at ts t))
+
+pub ranks-none : (ts : List Timeslice) (k t p : ℕ) → length ts ≡ 128 → k ≡ t → 128 ≤ k → p ≡ 0 → p ≡ priorityAt (map sliceOf ts) t
+ranks-none ts k t p full e out is = ranks ts k t p e (is ∙ sym (ap (λ (x : Timeslice). x .priority) (past ts k k freeTimeslice full refl out)))

@@ -26,9 +26,13 @@ pub record Choosable (m : Machine) (links : ℕ) : Type 0 where
 abbrev pub before : Machine → ℕ → Outcome
 before m links = record { state = shown m; links = links }
 
--- the choice's result
-pub record Chosen (m : Machine) (first : ℕ) (r : Answered) : Type 0 where
+-- an accepted event's answer: what is settled on
+pub record Settled (o : Outcome) (r : Answered) : Type 0 where
   pub refusal : r .refusal ≡ 0
-  pub links : r .links ≡ choose (before m first) .links
-  pub state : shown (r .machine) ≡ choose (before m first) .state
+  pub links : r .links ≡ o .links
+  pub state : shown (r .machine) ≡ o .state
   pub exact : stored (r .machine) ≡ true
+
+-- the choice's result
+abbrev pub Chosen : Machine → ℕ → Answered → Type 0
+Chosen m links r = Settled (choose (before m links)) r

@@ -3,3 +3,5 @@ pub mod Sets
 pub mod Search
 pub mod Releasing
 pub mod Choosing
+pub mod Promise
+pub mod Turning

@@ -7,6 +7,7 @@ mod numbers;
 mod order;
 mod release;
 mod threads;
+mod turns;
 mod walk;
 
 use rules::Running;

@@ -3,8 +3,10 @@ ghost use mathlib.Core.Path.{_≡_};
 ghost use mathlib.Core.List.{map};
 ghost use Prim.Native.Nat.{suc, _≤_};
 ghost use lib.ListN.{take};
-ghost use Rattle.rules.specs.State.{placeAt};
-ghost use Rattle.rules.specs.Order.{topmost as topmostOf};
+ghost use Rattle.rules.specs.State.{placeAt, ownerAt};
+ghost use Rattle.rules.specs.Tests.{member as memberOf, some-of};
+ghost use lib.Dec.{eqb};
+ghost use Rattle.rules.specs.Order.{topmost as topmostOf, earlier as earlierOf, standsAbove};
 ghost use Rattle.dispatcher.specs.Shown.{sliceOf, placeOf};
 ghost use Rattle.dispatcher.specs.Sets.{setOf, found, kindOf, numberOf};
 ghost use Rattle.dispatcher.specs.Search.{better as betterOf, weighed as weighedOf};
@@ -113,4 +115,89 @@ pub fn topmost(timeslices: [Timeslice; 128], order: [u8; 128], live: u8, set: Pl
         return Found::Nothing;
     }
     Found::At(best.timeslice)
+}
+
+// One comes before the other in turn order.
+pub fn earlier(order: [u8; 128], live: u8, a: u8, b: u8) -> bool
+    requires { ⌜ live ≤ 128 ⌝ }
+    ensures { λ r. ⌜ r ≡ earlierOf (take live order) a b ⌝ }
+{
+    let n = index(live);
+    let mut i: usize = 0;
+    while i < n {
+        let t = order[i];
+        if t == b {
+            return false;
+        }
+        if t == a {
+            return true;
+        }
+        i += 1;
+    }
+    false
+}
+
+pub fn stands_above(timeslices: [Timeslice; 128], order: [u8; 128], live: u8, a: u8, b: u8) -> bool
+    requires { ⌜ live ≤ 128 ⌝ }
+    ensures { λ r. ⌜ r ≡ standsAbove (map sliceOf timeslices) (take live order) a b ⌝ }
+{
+    let j = index(a);
+    let mut high: u8 = 0;
+    if j < 128 {
+        let x = timeslices[j];
+        high = x.priority;
+    }
+    let k = index(b);
+    let mut low: u8 = 0;
+    if k < 128 {
+        let y = timeslices[k];
+        low = y.priority;
+    }
+    if low < high {
+        return true;
+    }
+    if high == low {
+        return earlier(order, live, a, b);
+    }
+    false
+}
+
+// The turn order lists this timeslice.
+pub fn member(order: [u8; 128], live: u8, t: u8) -> bool
+    requires { ⌜ live ≤ 128 ⌝ }
+    ensures { λ r. ⌜ r ≡ memberOf t (take live order) ⌝ }
+{
+    let n = index(live);
+    let mut i: usize = 0;
+    while i < n {
+        let u = order[i];
+        if t == u {
+            return true;
+        }
+        i += 1;
+    }
+    false
+}
+
+// Some timeslice of the turn order has this owner.
+pub fn owns_one(timeslices: [Timeslice; 128], order: [u8; 128], live: u8, n: u8) -> bool
+    requires { ⌜ live ≤ 128 ⌝ }
+    ensures { λ r. ⌜ r ≡ some-of (λ t. eqb (ownerAt (map sliceOf timeslices) t) n) (take live order) ⌝ }
+{
+    let last = index(live);
+    let mut i: usize = 0;
+    while i < last {
+        let t = order[i];
+        let k = index(t);
+        i += 1;
+        if k < 128 {
+            let x = timeslices[k];
+            if x.owner == n {
+                return true;
+            }
+        } else if 0 == n {
+            return true;
+        }
+    }
+    false
 }

@@ -1,0 +1,61 @@
+use Prim.Native.Nat.{_-_}
+use mathlib.Core.Path.{_≡_, refl, sym, ap, _∙_}
+use native.Mathlib.Omega.{arith}
+use borrow.Author.Needs.{needs}
+use borrow.Author.Tests.{eq-eqb, ne-eqb}
+use lib.Dec.{eqb}
+use Rattle.dispatcher.proofs.Along.{Along, begin, here, next, out}
+use Rattle.rules.specs.Tests.{member as memberOf}
+use Rattle.dispatcher.proofs.order.member.Statement.{statement}
+use Rattle.dispatcher.proofs.order.member.Tie as tie
+use Rattle.dispatcher.proofs.order.member.Reads as reads
+use Rattle.dispatcher.proofs.order.member.Lts as lts
+use Rattle.dispatcher.proofs.numbers.index.Reads as index-reads
+
+abbrev Inv-loop : tie.InvT-loop
+Inv-loop live t order n i₀ i = Along (λ l. memberOf t l) live order n i
+
+abbrev μ-loop : tie.MeasureT-loop
+μ-loop live t order n i₀ i = live - i
+
+index-requires : tie.Need-index-requires Inv-loop μ-loop
+index-requires c κs = tt
+
+loop-holds : tie.Need-loop-holds Inv-loop μ-loop
+loop-holds c = begin _ _ _ _ (c .index .ensures)
+
+array-read-u : tie.Need-array-read-u Inv-loop μ-loop
+array-read-u c = omega (arith, c .before .before .before .pre)
+
+returns : tie.Need-returns Inv-loop μ-loop
+unfolding memberOf
+returns c = let s = c .before .before .before .before in rw (eq-eqb _ _ (c .if1 .taken)) at (here _ _ _ _ _ (s .good .0 .1 .0 .1) (s .pre) (c .before .before .loop .inv) (c .before .loop-test .taken))
+
+add-i : tie.Need-add-i Inv-loop μ-loop
+add-i c = omega (arith, c .before .before .before .before .pre)
+
+loop-less : tie.Need-loop-less Inv-loop μ-loop
+loop-less c = omega arith
+
+loop-again : tie.Need-loop-again Inv-loop μ-loop
+unfolding memberOf
+loop-again c = let s = c .before .before .before .before in next _ _ _ _ _ (s .good .0 .1 .0 .1) (s .pre) (c .before .before .loop .inv) (c .before .loop-test .taken) (rw (ne-eqb _ _ (c .if1 .left)) refl)
+
+returns-2 : tie.Need-returns-2 Inv-loop μ-loop
+unfolding memberOf
+returns-2 c = out _ _ _ _ _ (c .before .loop .inv) (c .loop-test .left)
+
+pub member-spec : {M : Type 1} → statement M
+member-spec =
+    tie.close
+    (tie.spec
+    Inv-loop
+    μ-loop
+    index-requires
+    loop-holds
+    array-read-u
+    returns
+    add-i
+    loop-less
+    loop-again
+    returns-2)

@@ -1,0 +1,103 @@
+use Prim.Native.Nat.{_-_}
+use mathlib.Core.Path.{_≡_, refl, sym, ap, _∙_}
+use native.Mathlib.Omega.{arith}
+use borrow.Author.Needs.{needs}
+use borrow.Author.Tests.{eq-eqb, ne-eqb}
+use lib.Dec.{eqb}
+use Rattle.dispatcher.proofs.Along.{Along, begin, here, next, out}
+use mathlib.Core.List.{map}
+use Rattle.rules.specs.Tests.{some-of}
+use Rattle.rules.specs.State.{ownerAt}
+use Rattle.dispatcher.specs.Shown.{sliceOf}
+use Rattle.dispatcher.proofs.Tables.{owns, owns-none}
+use Rattle.dispatcher.proofs.order.owns_one.Statement.{statement}
+use Rattle.dispatcher.proofs.order.owns_one.Tie as tie
+use Rattle.dispatcher.proofs.order.owns_one.Reads as reads
+use Rattle.dispatcher.proofs.order.owns_one.Lts as lts
+use Rattle.dispatcher.proofs.numbers.index.Reads as index-reads
+
+abbrev Inv-loop : tie.InvT-loop
+Inv-loop live n timeslices order last i₀ i = Along (λ l. some-of (λ t. eqb (ownerAt (map sliceOf timeslices) t) n) l) live order last i
+
+abbrev μ-loop : tie.MeasureT-loop
+μ-loop live n timeslices order last i₀ i = live - i
+
+index-requires : tie.Need-index-requires Inv-loop μ-loop
+index-requires c κs = tt
+
+loop-holds : tie.Need-loop-holds Inv-loop μ-loop
+loop-holds c = begin _ _ _ _ (c .index .ensures)
+
+array-read-t : tie.Need-array-read-t Inv-loop μ-loop
+array-read-t c = omega (arith, c .before .before .before .pre)
+
+index-requires-2 : tie.Need-index-requires-2 Inv-loop μ-loop
+index-requires-2 c κs = tt
+
+add-i : tie.Need-add-i Inv-loop μ-loop
+add-i c = omega (arith, c .before .before .before .before .pre)
+
+mul-x : tie.Need-mul-x Inv-loop μ-loop
+mul-x c = search needs
+
+array-copy-out-x : tie.Need-array-copy-out-x Inv-loop μ-loop
+array-copy-out-x c = search needs
+
+returns : tie.Need-returns Inv-loop μ-loop
+unfolding some-of
+returns c =
+    let s = c .before .before .before .before .before .before .before .before in
+    let o = owns (s .args .t1) _ _ _ (c .before .before .before .before .index2 .ensures) refl in
+    rw (eq-eqb _ _ (sym o ∙ c .if2 .taken)) at (here _ _ _ _ _ (s .good .1 .0 .1 .0 .1) (s .pre) (c .before .before .before .before .before .before .loop .inv) (c .before .before .before .before .before .loop-test .taken))
+
+loop-less : tie.Need-loop-less Inv-loop μ-loop
+loop-less c = omega arith
+
+loop-again : tie.Need-loop-again Inv-loop μ-loop
+unfolding some-of
+loop-again c =
+    let s = c .before .before .before .before .before .before .before .before in
+    let o = owns (s .args .t1) _ _ _ (c .before .before .before .before .index2 .ensures) refl in
+    next _ _ _ _ _ (s .good .1 .0 .1 .0 .1) (s .pre) (c .before .before .before .before .before .before .loop .inv) (c .before .before .before .before .before .loop-test .taken) (rw (ne-eqb _ _ (λ e. c .if2 .left (o ∙ e))) refl)
+
+returns-2 : tie.Need-returns-2 Inv-loop μ-loop
+unfolding some-of
+returns-2 c =
+    let s = c .before .before .before .before .before .before in
+    let o = owns-none (s .args .t1) _ _ 0 (s .good .0 .1 .0 .1) (c .before .before .index2 .ensures) (c .before .if1 .left) refl in
+    rw (eq-eqb _ _ (sym o ∙ c .if3 .taken)) at (here _ _ _ _ _ (s .good .1 .0 .1 .0 .1) (s .pre) (c .before .before .before .before .loop .inv) (c .before .before .before .loop-test .taken))
+
+loop-less-2 : tie.Need-loop-less-2 Inv-loop μ-loop
+loop-less-2 c = omega arith
+
+loop-again-2 : tie.Need-loop-again-2 Inv-loop μ-loop
+unfolding some-of
+loop-again-2 c =
+    let s = c .before .before .before .before .before .before in
+    let o = owns-none (s .args .t1) _ _ 0 (s .good .0 .1 .0 .1) (c .before .before .index2 .ensures) (c .before .if1 .left) refl in
+    next _ _ _ _ _ (s .good .1 .0 .1 .0 .1) (s .pre) (c .before .before .before .before .loop .inv) (c .before .before .before .loop-test .taken) (rw (ne-eqb _ _ (λ e. c .if3 .left (o ∙ e))) refl)
+
+returns-3 : tie.Need-returns-3 Inv-loop μ-loop
+unfolding some-of
+returns-3 c = out _ _ _ _ _ (c .before .loop .inv) (c .loop-test .left)
+
+pub owns-one-spec : {M : Type 1} → statement M
+owns-one-spec =
+    tie.close
+    (tie.spec
+    Inv-loop
+    μ-loop
+    index-requires
+    loop-holds
+    array-read-t
+    index-requires-2
+    add-i
+    mul-x
+    array-copy-out-x
+    returns
+    loop-less
+    loop-again
+    returns-2
+    loop-less-2
+    loop-again-2
+    returns-3)
