@@ -8,3 +8,4 @@ pub mod Choices
 pub mod Along
 pub mod Shifts
 pub mod Above
+pub mod Settles

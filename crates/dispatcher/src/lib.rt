@@ -6,6 +6,7 @@ mod choice;
 mod numbers;
 mod order;
 mod release;
+mod settle;
 mod threads;
 mod turns;
 mod walk;

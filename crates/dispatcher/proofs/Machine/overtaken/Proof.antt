@@ -1,0 +1,47 @@
+use mathlib.Core.Path.{refl}
+use Rattle.dispatcher.proofs.Stored.{turns-fit}
+use Rattle.dispatcher.proofs.Settles.{chose, stayed, over-nothing, over-running}
+use borrow.Author.Needs.{needs}
+use Rattle.dispatcher.proofs.Machine.overtaken.Statement.{statement}
+use Rattle.dispatcher.proofs.Machine.overtaken.Tie as tie
+use Rattle.dispatcher.proofs.Machine.overtaken.Reads as reads
+use Rattle.dispatcher.proofs.Machine.overtaken.Lts as lts
+use Rattle.dispatcher.proofs.Machine.choose.Reads as choose-reads
+use Rattle.dispatcher.proofs.order.stands_above.Reads as stands-above-reads
+
+enum-told : tie.Need-enum-told
+enum-told c = search needs
+
+choose-requires : tie.Need-choose-requires
+choose-requires c κs = c .before .before .pre
+
+enum-known-running : tie.Need-enum-known-running
+enum-known-running c = search needs
+
+stands-above-requires : tie.Need-stands-above-requires
+stands-above-requires c κs = turns-fit _ (c .before .before .before .before .before .pre .exact)
+
+choose-requires-2 : tie.Need-choose-requires-2
+choose-requires-2 c κs = c .before .before .before .before .before .before .before .pre
+
+returns : tie.Need-returns
+returns c = chose _ _ _ (over-running (c .before .before .before .before .before .before .before .before .args .self) _ _ _ _ _ _ (c .before .before .before .before .before .before .running .given .1) (c .before .before .stands-above .ensures) (c .before .if1 .taken)) (c .choose2 .ensures)
+
+returns-2 : tie.Need-returns-2
+returns-2 c = chose _ _ _ (over-nothing (c .before .before .before .args .self) _ (c .before .enum-told .given .1)) (c .choose .ensures)
+
+returns-3 : tie.Need-returns-3
+returns-3 c = stayed _ _ (over-running (c .before .before .before .before .before .before .before .args .self) _ _ _ _ _ _ (c .before .before .before .before .before .running .given .1) (c .before .stands-above .ensures) (c .if1 .left)) (c .before .before .before .before .before .before .before .pre .exact)
+
+pub overtaken-spec : {M : Type 1} → statement M
+overtaken-spec =
+    tie.close
+    (tie.spec
+    enum-told
+    choose-requires
+    enum-known-running
+    stands-above-requires
+    choose-requires-2
+    returns
+    returns-2
+    returns-3)

@@ -1,0 +1,43 @@
+use Rattle.dispatcher.proofs.Stored.{turns-fit}
+use Rattle.dispatcher.proofs.Settles.{none-released, one-released, freed-exact}
+use borrow.Author.Needs.{needs}
+use Rattle.dispatcher.proofs.Machine.waiters_released.Statement.{statement}
+use Rattle.dispatcher.proofs.Machine.waiters_released.Tie as tie
+use Rattle.dispatcher.proofs.Machine.waiters_released.Reads as reads
+use Rattle.dispatcher.proofs.Machine.waiters_released.Lts as lts
+use Rattle.dispatcher.proofs.Machine.overtaken.Reads as overtaken-reads
+use Rattle.dispatcher.proofs.order.topmost.Reads as topmost-reads
+use Rattle.dispatcher.proofs.release.released.Reads as released-reads
+
+topmost-requires : tie.Need-topmost-requires
+topmost-requires c κs = turns-fit _ (c .before .before .pre .exact)
+
+enum-told : tie.Need-enum-told
+enum-told c = search needs
+
+enum-known-first : tie.Need-enum-known-first
+enum-known-first c = search needs
+
+released-requires : tie.Need-released-requires
+released-requires c κs = turns-fit _ (c .before .before .before .before .before .before .pre .exact)
+
+overtaken-requires : tie.Need-overtaken-requires
+overtaken-requires c κs = freed-exact _ _ _ _ _ (c .before .before .before .before .topmost .ensures) (c .before .before .first .given .1) (c .released .ensures) (c .before .before .before .before .before .before .before .pre)
+
+returns : tie.Need-returns
+returns c = none-released _ _ _ (c .before .before .topmost .ensures) (c .enum-told .given .1) (c .before .before .before .before .before .pre .exact)
+
+returns-2 : tie.Need-returns-2
+returns-2 c = one-released _ (c .before .before .before .before .before .before .before .before .args .self) _ _ _ (c .before .before .before .before .before .topmost .ensures) (c .before .before .before .first .given .1) (c .before .released .ensures) _ (c .overtaken .ensures)
+
+pub waiters-released-spec : {M : Type 1} → statement M
+waiters-released-spec =
+    tie.close
+    (tie.spec
+    topmost-requires
+    enum-told
+    enum-known-first
+    released-requires
+    overtaken-requires
+    returns
+    returns-2)

@@ -1,0 +1,67 @@
+// Document 01, "Events": after an event's changes, the releases and the choice that it makes.
+ghost use mathlib.Core.Path.{_≡_};
+ghost use mathlib.Core.Option.{some};
+ghost use Rattle.rules.specs.Events.{overtakes, settleIf, settle, releases};
+ghost use Rattle.dispatcher.specs.Shown.{shown};
+ghost use Rattle.dispatcher.specs.Choosing.{Choosable, Settled, before};
+use crate::Answered;
+use crate::Machine;
+use crate::order::Found;
+use crate::order::stands_above;
+use crate::order::topmost;
+use crate::release::released;
+use rules::Place;
+use rules::Running;
+
+impl Machine {
+    // A timeslice joined Queue: choice if nothing runs or it stands above the current.
+    pub fn overtaken(self, q: u8) -> Answered
+        requires { ⌜ Choosable self 0 ⌝ }
+        ensures { λ r. ⌜ Settled (settleIf (overtakes (shown self) (some q)) (before self 0)) r ⌝ }
+    {
+        let running = self.running;
+        match running {
+            Running::Nothing => self.choose(0),
+            Running::Runs {
+                thread: _,
+                timeslice: t,
+                count: _,
+            } => {
+                let timeslices = self.timeslices;
+                let order = self.order;
+                let live = self.live_timeslices;
+                if stands_above(timeslices, order, live, q, t) {
+                    return self.choose(0);
+                }
+                Answered {
+                    machine: self,
+                    refusal: 0,
+                    links: 0,
+                }
+            }
+        }
+    }
+
+    // Those On a thread are released.
+    pub fn waiters_released(mut self, n: u8) -> Answered
+        requires { ⌜ Choosable self 0 ⌝ }
+        ensures { λ r. ⌜ Settled (settle (releases n (shown self))) r ⌝ }
+    {
+        let timeslices = self.timeslices;
+        let order = self.order;
+        let live = self.live_timeslices;
+        let first = topmost(timeslices, order, live, Place::On(n));
+        match first {
+            Found::Nothing => Answered {
+                machine: self,
+                refusal: 0,
+                links: 0,
+            },
+            Found::At(q) => {
+                let free = released(timeslices, order, live, Place::On(n), q);
+                self.timeslices = free;
+                self.overtaken(q)
+            }
+        }
+    }
+}
