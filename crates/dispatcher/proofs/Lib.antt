@@ -9,3 +9,6 @@ pub mod Along
 pub mod Shifts
 pub mod Above
 pub mod Settles
+pub mod Answering
+pub mod Changes
+pub mod Facts

@@ -1,17 +1,20 @@
 -- What `stored` says of a machine.
-use Prim.Native.Nat.{ℕ, _≤_}
+use Prim.Native.Nat.{ℕ, suc, _≤_, _<_}
+use native.Mathlib.Omega.{arith}
 use mathlib.Core.Path.{_≡_, refl, sym, _∙_, ap}
 use mathlib.Core.List.{List, [], _∷_}
-use mathlib.Core.Bool.{Bool, true, _&&_, _||_}
+use mathlib.Core.Bool.{Bool, true, false, _&&_, _||_}
 use lib.ListN.{length, getD, set, length-set}
 use lib.Dec.{leb, ltb, eqb}
 use borrow.Author.Tests.{eqb-true, leb-true, eq-eqb}
 use Rattle.rules.specs.declared.Hold.{Hold}
 use Rattle.rules.specs.declared.Service.{Service}
+use Rattle.rules.specs.declared.Service.the-variants.{Nobody}
+use Rattle.rules.specs.declared.Role.{Role}
 use Rattle.rules.specs.declared.Thread.{Thread}
 use Rattle.rules.specs.Tests.{below}
 use Rattle.rules.specs.State.{limit, freeThread, threadAt, liveThreads, oneMoreIf}
-use Rattle.rules.specs.Threads.{setHold, setService, withHold, withService, donate}
+use Rattle.rules.specs.Threads.{setHold, setService, withHold, withService, startsAs, created, donate}
 use Rattle.dispatcher.specs.declared.Machine.{Machine}
 use Rattle.dispatcher.specs.Shown.{stored}
 use Rattle.dispatcher.proofs.Tests.{and-left, and-right, both}
@@ -41,6 +44,16 @@ module _ (m : Machine) (e : stored m ≡ true) where
   stored-with n o t l =
       both _ _ (both _ _ (eq-eqb _ _ l) (rw t (and-right counted listed (and-left (counted && listed) cleared e))))
       (rw (o, t) (and-right (counted && listed) cleared e))
+
+-- every thread below L is stored, so L fits its byte
+pub live-most : (ts : List Thread) → liveThreads ts ≤ length ts
+unfolding liveThreads
+live-most [] = omega arith
+live-most (t ∷ ts) = go (t .live) (live-most ts)
+  where
+    go : (b : Bool) → liveThreads ts ≤ length ts → oneMoreIf b (liveThreads ts) ≤ suc (length ts)
+    go true h = omega arith
+    go false h = omega arith
 
 -- a store that keeps a thread's `live` keeps L
 live-set : (ts : List Thread) (n : ℕ) (a : Thread) → a .live ≡ threadAt ts n .live → liveThreads (set ts n a) ≡ liveThreads ts
@@ -72,3 +85,18 @@ length-service n v ts = length-set ts n (withService v (threadAt ts n))
 pub length-donate : (caller server : ℕ) (ts : List Thread) → length (donate caller server ts) ≡ length ts
 unfolding donate
 length-donate caller server ts = simp (length-hold, length-service)
+
+-- a new thread is one more
+pub one-more : (b : Bool) (n : ℕ) → oneMoreIf b (suc n) ≡ suc (oneMoreIf b n)
+one-more true n = refl
+one-more false n = refl
+
+live-more : (ts : List Thread) (n : ℕ) (a : Thread) → n < length ts → a .live ≡ true → threadAt ts n .live ≡ false → liveThreads (set ts n a) ≡ suc (liveThreads ts)
+unfolding liveThreads
+live-more [] n a h l e = absurd (omega arith)
+live-more (t ∷ ts) ℕ.zero a h l e = rw (l, e) refl
+live-more (t ∷ ts) (ℕ.suc n) a h l e = ap (oneMoreIf (t .live)) (live-more ts n a (omega arith) l e) ∙ one-more (t .live) (liveThreads ts)
+
+pub live-created : (n : ℕ) (r : Role) (ts : List Thread) → n < length ts → threadAt ts n .live ≡ false → liveThreads (created n r ts) ≡ suc (liveThreads ts)
+unfolding created
+live-created n r ts short e = live-more ts n (record { live = true; role = r; hold = startsAs r; service = Nobody }) short refl e

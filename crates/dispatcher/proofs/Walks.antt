@@ -9,12 +9,12 @@ use types.Run.{OneOf}
 use denote.Enum.Declared.{tagOf}
 use Rattle.rules.proofs.Hold.{the-type}
 use Rattle.rules.specs.declared.Hold.{Hold}
+use Rattle.dispatcher.proofs.Stored.{live-most}
 use Rattle.rules.specs.declared.Hold.the-variants.{Ready, Idle, Blocked, Calling, Helping}
 use Rattle.rules.specs.declared.Thread.{Thread}
 use Rattle.rules.specs.declared.Chain.{Chain}
-use mathlib.Core.Bool.{Bool, true, false}
 use lib.ListN.{length}
-use Rattle.rules.specs.State.{holdAt, liveThreads, oneMoreIf}
+use Rattle.rules.specs.State.{holdAt, liveThreads}
 use Rattle.rules.specs.Walk.{walkFrom, walk, follow, noLinks, donated, helped, ended, loop}
 
 -- after the chain c, at this thread
@@ -77,15 +77,6 @@ bounded : (k : ℕ) (ts : List Thread) (n : ℕ) (c : Chain) → c .count ≤ c 
 unfolding walkFrom
 bounded zero ts n c e = record { links = omega arith; count = omega arith }
 bounded (suc k) ts n c e = followed (λ m d. walkFrom k ts m d) n c k (holdAt ts n) e (λ m d. bounded k ts m d)
-
-live-most : (ts : List Thread) → liveThreads ts ≤ length ts
-unfolding liveThreads
-live-most [] = omega arith
-live-most (t ∷ ts) = go (t .live) (live-most ts)
-  where
-    go : (b : Bool) → liveThreads ts ≤ length ts → oneMoreIf b (liveThreads ts) ≤ suc (length ts)
-    go true h = omega arith
-    go false h = omega arith
 
 pub walk-links : (ts : List Thread) (n : ℕ) → length ts ≡ 128 → walk ts n .links ≤ 128
 unfolding walk

@@ -3,6 +3,7 @@ ghost use mathlib.Core.Path.{_≡_};
 ghost use Rattle.dispatcher.specs.Shown.{emptyMachine};
 
 mod choice;
+mod events;
 mod numbers;
 mod order;
 mod release;

@@ -1,0 +1,50 @@
+use mathlib.Core.Path.{_≡_, refl, ap}
+use Rattle.rules.specs.declared.Hold.the-variants.{Blocked}
+use Rattle.rules.specs.declared.Event.the-variants.{Block}
+use Rattle.rules.specs.State.{withThreads, nothingRuns}
+use Rattle.rules.specs.Threads.{setHold}
+use Rattle.rules.specs.Events.{block, blockBy, chooses-in}
+use Rattle.dispatcher.specs.Shown.{shown}
+use Rattle.dispatcher.proofs.Answering.{refuse, accept, chosen, sound-stored}
+use Rattle.dispatcher.proofs.Stored.{live-hold}
+use Rattle.dispatcher.proofs.Changes.{threadsTo, threads-shown, threads-exact}
+use native.Mathlib.Omega.{arith}
+use borrow.Author.Needs.{needs}
+use Rattle.dispatcher.proofs.Machine.dispatch_block.Statement.{statement}
+use Rattle.dispatcher.proofs.Machine.dispatch_block.Tie as tie
+use Rattle.dispatcher.proofs.Machine.dispatch_block.Reads as reads
+use Rattle.dispatcher.proofs.Machine.dispatch_block.Lts as lts
+use Rattle.dispatcher.proofs.Machine.choose.Reads as choose-reads
+use Rattle.dispatcher.proofs.threads.with_hold.Reads as with-hold-reads
+
+enum-told : tie.Need-enum-told
+enum-told c = search needs
+
+enum-known-running : tie.Need-enum-known-running
+enum-known-running c = search needs
+
+with-hold-requires : tie.Need-with-hold-requires
+with-hold-requires c κs = search needs
+
+choose-requires : tie.Need-choose-requires
+choose-requires c κs =
+    let s = c .before .before .before .before .before in
+    let ok = sound-stored (s .args .self) (s .pre) in
+    record { exact = threads-exact (s .args .self) _ _ ok (c .with-hold .ensures) (live-hold _ _ _); few = omega arith }
+
+returns : tie.Need-returns
+returns c = let a = c .before .before .args in refuse Block (a .self) 4 (rw (c .enum-told .given .1) refl)
+
+returns-2 : tie.Need-returns-2
+unfolding block
+returns-2 c =
+    let s = c .before .before .before .before .before .before in
+    let m = s .args .self in
+    let n = c .before .before .before .before .running .given .0 .0 in
+    accept Block m (s .pre) (rw (c .before .before .before .before .running .given .1) refl) (chooses-in (withThreads (setHold n Blocked (m .threads)) (shown m))) (rw (c .before .before .before .before .running .given .1) refl) _
+    (chosen (threadsTo _ m) 0 _ _ (threads-shown m _ _ (c .before .with-hold .ensures)) (c .choose .ensures))
+
+pub dispatch-block-spec : {M : Type 1} → statement M
+dispatch-block-spec =
+    tie.close
+    (tie.spec enum-told enum-known-running with-hold-requires choose-requires returns returns-2)

@@ -1,0 +1,79 @@
+use mathlib.Core.Path.{_≡_, refl, sym, _∙_, ap}
+use mathlib.Core.Bool.{Bool}
+use Prim.Native.Nat.{ℕ}
+use native.Mathlib.Omega.{arith}
+use lib.ListN.{length, length-map}
+use borrow.Author.Tests.{lt-ltb, le-ltb}
+use Rattle.rules.specs.declared.Event.the-variants.{Create}
+use Rattle.rules.specs.State.{threadAt}
+use Rattle.rules.specs.Events.{create}
+use Rattle.dispatcher.proofs.Answering.{refuse, accept, stands, sound-stored}
+use Rattle.dispatcher.proofs.Stored.{live-is, live-most}
+use Rattle.dispatcher.proofs.Changes.{creation-shown, creation-exact}
+use Rattle.dispatcher.specs.Shown.{shown}
+use borrow.Author.Needs.{needs}
+use Rattle.dispatcher.proofs.Machine.dispatch_create.Statement.{statement}
+use Rattle.dispatcher.proofs.Machine.dispatch_create.Tie as tie
+use Rattle.dispatcher.proofs.Machine.dispatch_create.Reads as reads
+use Rattle.dispatcher.proofs.Machine.dispatch_create.Lts as lts
+use Rattle.dispatcher.proofs.events.starts_as.Reads as starts-as-reads
+use Rattle.dispatcher.proofs.numbers.index.Reads as index-reads
+
+returns : tie.Need-returns
+returns c = let a = c .before .args in refuse (Create (a .n) (a .role)) (a .t1) 1 (rw (lt-ltb _ _ (c .if1 .taken)) refl)
+
+index-requires : tie.Need-index-requires
+index-requires c κs = search needs
+
+mul-old : tie.Need-mul-old
+mul-old c = search needs
+
+element-copy-out-old : tie.Need-element-copy-out-old
+element-copy-out-old c = search needs
+
+returns-2 : tie.Need-returns-2
+returns-2 c =
+    let a = c .before .before .before .before .args in
+    let live = sym (ap (λ (k : ℕ). threadAt (a .t1 .threads) k .live) (c .before .before .index .ensures)) ∙ c .if2 .taken in
+    refuse (Create (a .n) (a .role)) (a .t1) 2 (rw (le-ltb _ _ (c .before .before .before .if1 .left), live) refl)
+
+starts-as-requires : tie.Need-starts-as-requires
+starts-as-requires c κs = search needs
+
+mul-new : tie.Need-mul-new
+mul-new c = search needs
+
+element-set-from-new : tie.Need-element-set-from-new
+element-set-from-new c = search needs
+
+add-self : tie.Need-add-self
+add-self c =
+    let s = c .before .before .before .before .before in
+    let full : length (s .args .t1 .threads) ≡ 128 = simp length-map at (s .good .0 .1 .1 .0 .1 .0 .1) in
+    omega (arith, live-is _ (sound-stored _ (s .pre)), live-most (s .args .t1 .threads))
+
+returns-3 : tie.Need-returns-3
+unfolding create
+returns-3 c =
+    let s = c .before .before .before .before .before in
+    let a = s .args in
+    let ok = sound-stored (a .t1) (s .pre) in
+    let full : length (a .t1 .threads) ≡ 128 = simp length-map at (s .good .0 .1 .1 .0 .1 .0 .1) in
+    let free = sym (ap (λ (k : ℕ). threadAt (a .t1 .threads) k .live) (c .before .before .before .index .ensures)) ∙ c .before .if2 .left in
+    accept (Create (a .n) (a .role)) (a .t1) (s .pre) (rw (le-ltb _ _ (c .before .before .before .before .if1 .left), free) refl) (create (a .n) (a .role) (shown (a .t1))) refl _
+    (stands _ _ (creation-shown (a .t1) _ _ _ _ (c .before .before .before .index .ensures) (c .starts-as .ensures)) (creation-exact (a .t1) _ _ _ _ (c .before .before .before .index .ensures) (c .starts-as .ensures) ok (omega (arith, full, c .before .before .before .before .if1 .left)) free))
+
+pub dispatch-create-spec : {M : Type 1} → statement M
+dispatch-create-spec =
+    tie.close
+    (tie.spec
+    returns
+    index-requires
+    mul-old
+    element-copy-out-old
+    returns-2
+    starts-as-requires
+    mul-new
+    element-set-from-new
+    add-self
+    returns-3)
