@@ -46,3 +46,7 @@ stands m s e exact = record { refusal = refl; links = refl; state = e; exact = e
 -- a choice from the machine that shows this state
 pub chosen : (m : Machine) (links : ℕ) (s : State) (r : Answered) → shown m ≡ s → Chosen m links r → Settled (choose (record { state = s; links = links })) r
 chosen m links s r e c = subst (λ (u : State). Settled (choose (record { state = u; links = links })) r) e c
+
+-- what a machine settles on, said of the state that it shows
+pub said-of : (f : State → Midway) (m : Machine) (s : State) (r : Answered) → shown m ≡ s → Settled (settle (f (shown m))) r → Settled (settle (f s)) r
+said-of f m s r e c = subst (λ (u : State). Settled (settle (f u)) r) e c

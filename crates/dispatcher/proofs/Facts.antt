@@ -17,7 +17,7 @@ use Rattle.rules.specs.Order.{topmost, upper}
 use Rattle.rules.specs.Walk.{chainOf, verdict, Verdict, runs, retries, waits, stalls}
 use Rattle.rules.specs.Release.{inQueue, topmostAt}
 use Rattle.rules.specs.Sound.{tablesFull, turnsOnce, ownersLive, rangesHold, callsServed, linksGood, idlesGood, freeSlots, shaped, placed, runsAs, settledOn, settled, sound}
-use Rattle.dispatcher.proofs.Tests.{and-left, and-right, both}
+use Rattle.dispatcher.proofs.Tests.{and-left, and-right, both, or-left, or-right}
 use Rattle.dispatcher.proofs.Walks.{walk-count}
 use Rattle.dispatcher.proofs.Stored.{one-more}
 
@@ -49,14 +49,6 @@ module _ (s : State) (ok : sound s ≡ true) where
 
   pub once : distinct (s .order) ≡ true
   once = and-right (all (λ t. ltb t limit) (s .order)) (distinct (s .order)) turns-once
-
-or-left : (b c : Bool) → b ≡ true → (b || c) ≡ true
-or-left true c h = refl
-or-left false c h = let z : true ≡ false = sym h in cc
-
-or-right : (b c : Bool) → c ≡ true → (b || c) ≡ true
-or-right true c h = refl
-or-right false c h = h
 
 -- the topmost of the turn order is listed
 pub some-is : {t u : ℕ} → some u ≡ some t → u ≡ t

@@ -12,3 +12,4 @@ pub mod Settles
 pub mod Answering
 pub mod Changes
 pub mod Facts
+pub mod Given

@@ -6,18 +6,19 @@ use mathlib.Core.List.{List, [], _∷_}
 use mathlib.Core.Bool.{Bool, true, false, _&&_, _||_}
 use lib.ListN.{length, getD, set, length-set}
 use lib.Dec.{leb, ltb, eqb}
-use borrow.Author.Tests.{eqb-true, leb-true, eq-eqb}
+use borrow.Author.Tests.{eqb-true, leb-true, eq-eqb, le-ltb, le-leb, ltb-false}
 use Rattle.rules.specs.declared.Hold.{Hold}
 use Rattle.rules.specs.declared.Service.{Service}
-use Rattle.rules.specs.declared.Service.the-variants.{Nobody}
+use Rattle.rules.specs.declared.Hold.the-variants.{Ready, Idle, Blocked, Calling, Helping}
+use Rattle.rules.specs.declared.Service.the-variants.{Nobody, Serving, Orphan}
 use Rattle.rules.specs.declared.Role.{Role}
 use Rattle.rules.specs.declared.Thread.{Thread}
 use Rattle.rules.specs.Tests.{below}
 use Rattle.rules.specs.State.{limit, freeThread, threadAt, liveThreads, oneMoreIf}
-use Rattle.rules.specs.Threads.{setHold, setService, withHold, withService, startsAs, created, donate}
+use Rattle.rules.specs.Threads.{setHold, setService, withHold, withService, startsAs, created, donate, freeCaller, replied, orphanServer, aborted}
 use Rattle.dispatcher.specs.declared.Machine.{Machine}
 use Rattle.dispatcher.specs.Shown.{stored}
-use Rattle.dispatcher.proofs.Tests.{and-left, and-right, both}
+use Rattle.dispatcher.proofs.Tests.{and-left, and-right, both, or-left, or-right, Two, holds, fails, two, below-at, below-of}
 
 module _ (m : Machine) (e : stored m ≡ true) where
   abbrev counted : Bool
@@ -44,6 +45,24 @@ module _ (m : Machine) (e : stored m ≡ true) where
   stored-with n o t l =
       both _ _ (both _ _ (eq-eqb _ _ l) (rw t (and-right counted listed (and-left (counted && listed) cleared e))))
       (rw (o, t) (and-right (counted && listed) cleared e))
+
+-- free entries of the turn order hold 0
+pub free-zero : (m : Machine) → stored m ≡ true → (k : ℕ) → m .«live_timeslices» ≤ k → k < 128 → getD (m .order) k 0 ≡ 0
+unfolding stored
+free-zero m e k h short =
+    let past = below-at limit k (λ i. ltb i (m .«live_timeslices») || eqb (getD (m .order) i 0) 0) (and-right (counted m e && listed m e) (cleared m e) e) short in
+    eqb-true (getD (m .order) k 0) 0 (rw (le-ltb k (m .«live_timeslices») h) at past)
+
+-- and that is all there is to it
+pub stored-of : (n : Machine) → n .«live_threads» ≡ liveThreads (n .threads) → n .«live_timeslices» ≤ 128
+    → ((k : ℕ) → n .«live_timeslices» ≤ k → k < 128 → getD (n .order) k 0 ≡ 0) → stored n ≡ true
+unfolding stored
+stored-of n l t f = both _ _ (both _ _ (eq-eqb _ _ l) (le-leb _ _ t)) (below-of limit _ (λ k short. clear k short (two (ltb k (n .«live_timeslices»)))))
+  where
+    clear : (k : ℕ) → k < 128 → Two (ltb k (n .«live_timeslices»)) → (ltb k (n .«live_timeslices») || eqb (getD (n .order) k 0) 0) ≡ true
+    clear k short (holds e) = or-left (ltb k (n .«live_timeslices»)) (eqb (getD (n .order) k 0) 0) e
+    clear k short (fails e) =
+        or-right (ltb k (n .«live_timeslices»)) (eqb (getD (n .order) k 0) 0) (eq-eqb (getD (n .order) k 0) 0 (f k (ltb-false k (n .«live_timeslices») e) short))
 
 -- every thread below L is stored, so L fits its byte
 pub live-most : (ts : List Thread) → liveThreads ts ≤ length ts
@@ -100,3 +119,24 @@ live-more (t ∷ ts) (ℕ.suc n) a h l e = ap (oneMoreIf (t .live)) (live-more t
 pub live-created : (n : ℕ) (r : Role) (ts : List Thread) → n < length ts → threadAt ts n .live ≡ false → liveThreads (created n r ts) ≡ suc (liveThreads ts)
 unfolding created
 live-created n r ts short e = live-more ts n (record { live = true; role = r; hold = startsAs r; service = Nobody }) short refl e
+
+-- the other changes of threads keep L too
+free-caller : (v : Service) (ts : List Thread) → liveThreads (freeCaller v ts) ≡ liveThreads ts
+free-caller Nobody ts = refl
+free-caller (Serving n) ts = live-hold n Ready ts
+free-caller Orphan ts = refl
+
+pub live-replied : (n : ℕ) (ts : List Thread) → liveThreads (replied n ts) ≡ liveThreads ts
+unfolding replied
+live-replied n ts = simp (live-service, live-hold, free-caller)
+
+orphan-server : (h : Hold) (ts : List Thread) → liveThreads (orphanServer h ts) ≡ liveThreads ts
+orphan-server Ready ts = refl
+orphan-server Idle ts = refl
+orphan-server Blocked ts = refl
+orphan-server (Calling n) ts = live-service n Orphan ts
+orphan-server (Helping n) ts = refl
+
+pub live-aborted : (n : ℕ) (ts : List Thread) → liveThreads (aborted n ts) ≡ liveThreads ts
+unfolding aborted
+live-aborted n ts = simp (live-hold, orphan-server)

@@ -1,0 +1,32 @@
+use Prim.Native.Nat.{ℕ}
+use mathlib.Core.Path.{_≡_, refl, sym, _∙_, ap}
+use native.Mathlib.Omega.{arith}
+use borrow.Author.Tests.{lt-ltb, le-ltb, eq-eqb, ne-eqb, not-true, not-false}
+use Rattle.dispatcher.specs.Shown.{shown}
+use Rattle.rules.specs.Events.{callDonates, releases}
+use Rattle.dispatcher.proofs.Answering.{said-of}
+use Rattle.dispatcher.proofs.Stored.{live-donate}
+use Rattle.dispatcher.proofs.Changes.{choosable, runningTo, running-shown, running-exact}
+use borrow.Author.Needs.{needs}
+use Rattle.dispatcher.proofs.Machine.call_donates.Statement.{statement}
+use Rattle.dispatcher.proofs.Machine.call_donates.Tie as tie
+use Rattle.dispatcher.proofs.Machine.call_donates.Reads as reads
+use Rattle.dispatcher.proofs.Machine.call_donates.Lts as lts
+use Rattle.dispatcher.proofs.Machine.waiters_released.Reads as waiters-released-reads
+use Rattle.dispatcher.proofs.threads.donated.Reads as donated-reads
+
+donated-requires : tie.Need-donated-requires
+donated-requires c κs = search needs
+
+add-t10 : tie.Need-add-t10
+add-t10 c = omega (arith, c .before .before .pre .1)
+
+waiters-released-requires : tie.Need-waiters-released-requires
+waiters-released-requires c κs = let s = c .before .before .before .before .before in choosable _ (running-exact (s .args .self) _ _ _ (s .pre .0 .exact) (c .before .before .before .donated .ensures) (live-donate _ _ _))
+
+returns : tie.Need-returns
+unfolding callDonates
+returns c = let a = c .before .before .before .before .before .before .args in said-of (releases (a .server)) (runningTo _ _ (a .self)) _ _ (running-shown (a .self) _ _ _ (c .before .before .before .before .donated .ensures)) (c .waiters-released .ensures)
+
+pub call-donates-spec : {M : Type 1} → statement M
+call-donates-spec = tie.close (tie.spec donated-requires add-t10 waiters-released-requires returns)

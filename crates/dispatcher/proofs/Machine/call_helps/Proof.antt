@@ -1,0 +1,29 @@
+use Prim.Native.Nat.{ℕ}
+use mathlib.Core.Path.{_≡_, refl, sym, _∙_, ap}
+use native.Mathlib.Omega.{arith}
+use borrow.Author.Tests.{lt-ltb, le-ltb, eq-eqb, ne-eqb, not-true, not-false}
+use Rattle.dispatcher.specs.Shown.{shown}
+use Rattle.rules.specs.Events.{callHelps}
+use Rattle.dispatcher.proofs.Answering.{chosen}
+use Rattle.dispatcher.proofs.Stored.{live-hold}
+use Rattle.dispatcher.proofs.Changes.{choosable, threadsTo, threads-shown, threads-exact}
+use borrow.Author.Needs.{needs}
+use Rattle.dispatcher.proofs.Machine.call_helps.Statement.{statement}
+use Rattle.dispatcher.proofs.Machine.call_helps.Tie as tie
+use Rattle.dispatcher.proofs.Machine.call_helps.Reads as reads
+use Rattle.dispatcher.proofs.Machine.call_helps.Lts as lts
+use Rattle.dispatcher.proofs.Machine.choose.Reads as choose-reads
+use Rattle.dispatcher.proofs.threads.with_hold.Reads as with-hold-reads
+
+with-hold-requires : tie.Need-with-hold-requires
+with-hold-requires c κs = search needs
+
+choose-requires : tie.Need-choose-requires
+choose-requires c κs = let s = c .before .before in choosable _ (threads-exact (s .args .self) _ _ (s .pre .exact) (c .with-hold .ensures) (live-hold _ _ _))
+
+returns : tie.Need-returns
+unfolding callHelps
+returns c = let m = c .before .before .before .args .self in chosen (threadsTo _ m) 0 _ _ (threads-shown m _ _ (c .before .with-hold .ensures)) (c .choose .ensures)
+
+pub call-helps-spec : {M : Type 1} → statement M
+call-helps-spec = tie.close (tie.spec with-hold-requires choose-requires returns)

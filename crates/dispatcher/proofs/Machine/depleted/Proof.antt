@@ -1,0 +1,59 @@
+use Prim.Native.Nat.{ℕ, _<_}
+use mathlib.Core.Path.{_≡_, refl, sym, _∙_, ap}
+use native.Mathlib.Omega.{arith}
+use borrow.Author.Tests.{lt-ltb, le-ltb, eq-eqb, ne-eqb, not-true, not-false}
+use lib.ListN.{length, take, length-map}
+use lib.Seq.{length-take-le}
+use Rattle.rules.specs.declared.Thread.{Thread}
+use Rattle.dispatcher.specs.Shown.{shown}
+use Rattle.rules.specs.declared.Timeslice.{Timeslice}
+use Rattle.rules.specs.Release.{behind}
+use Rattle.rules.specs.State.{Slice, sliceAt}
+use Rattle.rules.specs.Timeslices.{refilled, setLeft, toBack}
+use Rattle.rules.specs.Events.{depletes}
+use Rattle.dispatcher.specs.Shown.{sliceOf, freeTimeslice}
+use Rattle.dispatcher.proofs.Answering.{chosen}
+use Rattle.dispatcher.proofs.Tables.{slice-at}
+use Rattle.dispatcher.proofs.Stored.{turns-fit}
+use Rattle.dispatcher.proofs.Given.{movedTo, refills, left-places, released-shown, turned-exact}
+use Rattle.dispatcher.proofs.Changes.{choosable}
+use borrow.Author.Needs.{needs}
+use Rattle.dispatcher.proofs.Machine.depleted.Statement.{statement}
+use Rattle.dispatcher.proofs.Machine.depleted.Tie as tie
+
+index-requires : tie.Need-index-requires
+index-requires c κs = tt
+
+mul-x : tie.Need-mul-x
+mul-x c = omega (arith, c .index .ensures, c .before .pre .1 .0)
+
+element-copy-out-x : tie.Need-element-copy-out-x
+element-copy-out-x c = omega (arith, c .index .ensures, c .before .pre .1 .0)
+
+mul-y : tie.Need-mul-y
+mul-y c = omega (arith, c .before .index .ensures, c .before .before .pre .1 .0)
+
+element-set-from-y : tie.Need-element-set-from-y
+element-set-from-y c = omega (arith, c .before .index .ensures, c .before .before .pre .1 .0)
+
+to-back-requires : tie.Need-to-back-requires
+to-back-requires c κs = let s = c .before .before .before .before in (turns-fit (s .args .t1) (s .pre .0 .exact), s .pre .1 .1)
+
+release-requires : tie.Need-release-requires
+release-requires c κs = let s = c .before .before .before .before .before in turns-fit (s .args .t1) (s .pre .0 .exact)
+
+choose-requires : tie.Need-choose-requires
+choose-requires c κs = let s = c .before .before .before .before .before .before in choosable _ (turned-exact (s .args .t1) _ _ _ (s .pre .0 .exact) (c .before .to-back .ensures))
+
+returns : tie.Need-returns
+unfolding depletes
+returns c =
+    let a = c .before .before .before .before .before .before .before .args in
+    let m = a .t1 in
+    let at = c .before .before .before .before .before .before .index .ensures in
+    chosen (movedTo (m .threads) (c .before .release .result) (c .before .before .to-back .result) m) 0 _ _
+    (released-shown m (behind (a .t)) _ _ _ _ (refilled (a .t) (shown m .slices)) _ (toBack (a .t) (shown m .order)) refl (refills (m .timeslices) _ (a .t) at) (left-places (m .timeslices) _ (a .t) _ at) (c .before .before .to-back .ensures .listed) (c .before .release .ensures))
+    (c .choose .ensures)
+
+pub depleted-spec : {M : Type 1} → statement M
+depleted-spec = tie.close (tie.spec index-requires mul-x element-copy-out-x mul-y element-set-from-y to-back-requires release-requires choose-requires returns)

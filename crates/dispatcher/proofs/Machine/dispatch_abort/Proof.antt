@@ -1,0 +1,62 @@
+use Prim.Native.Nat.{ℕ, _<_}
+use mathlib.Core.Path.{_≡_, refl, sym, _∙_, ap}
+use native.Mathlib.Omega.{arith}
+use borrow.Author.Tests.{lt-ltb, le-ltb, eq-eqb, ne-eqb, not-true, not-false}
+use lib.ListN.{length, take, length-map}
+use lib.Seq.{length-take-le}
+use Rattle.rules.specs.declared.Thread.{Thread}
+use Rattle.dispatcher.specs.Shown.{shown}
+use Rattle.rules.specs.declared.Event.the-variants.{Abort}
+use Rattle.rules.specs.Refusals.{linked}
+use Rattle.rules.specs.State.{holdAt}
+use Rattle.rules.specs.Events.{abort}
+use Rattle.dispatcher.proofs.Answering.{refuse, accept, sound-stored}
+use Rattle.dispatcher.proofs.Changes.{read, choosable}
+use borrow.Author.Needs.{needs}
+use Rattle.dispatcher.proofs.Machine.dispatch_abort.Statement.{statement}
+use Rattle.dispatcher.proofs.Machine.dispatch_abort.Tie as tie
+
+returns : tie.Need-returns
+returns c = let a = c .before .args in refuse (Abort (a .n)) (a .t1) 1 (rw (lt-ltb _ _ (c .if1 .taken)) refl)
+
+index-requires : tie.Need-index-requires
+index-requires c κs = tt
+
+mul-thread : tie.Need-mul-thread
+mul-thread c = search needs
+
+element-copy-out-thread : tie.Need-element-copy-out-thread
+element-copy-out-thread c = search needs
+
+returns-2 : tie.Need-returns-2
+returns-2 c =
+    let a = c .before .before .before .before .before .args in
+    let dead = read (λ (t : Thread). t .live) (a .t1 .threads) _ _ _ (c .before .before .before .index .ensures) (not-true _ (c .if2 .taken)) in
+    refuse (Abort (a .n)) (a .t1) 3 (rw (le-ltb _ _ (c .before .before .before .before .if1 .left), dead) refl)
+
+is-linked-requires : tie.Need-is-linked-requires
+is-linked-requires c κs = tt
+
+returns-3 : tie.Need-returns-3
+returns-3 c =
+    let a = c .before .before .before .before .before .before .before .args in
+    let live = read (λ (t : Thread). t .live) (a .t1 .threads) _ _ _ (c .before .before .before .before .before .index .ensures) (not-false _ (c .before .before .if2 .left)) in
+    let free = read (λ (t : Thread). linked (t .hold)) (a .t1 .threads) _ _ _ (c .before .before .before .before .before .index .ensures) (sym (c .before .is-linked .ensures) ∙ not-true _ (c .if3 .taken)) in
+    refuse (Abort (a .n)) (a .t1) 9 (rw (le-ltb _ _ (c .before .before .before .before .before .before .if1 .left), live, free) refl)
+
+abort-walks-requires : tie.Need-abort-walks-requires
+abort-walks-requires c κs =
+    let s = c .before .before .before .before .before .before .before in
+    (choosable _ (sound-stored _ (s .pre)), ap (holdAt (s .args .t1 .threads)) (c .before .before .before .before .before .index .ensures))
+
+returns-4 : tie.Need-returns-4
+returns-4 c =
+    let s = c .before .before .before .before .before .before .before .before in
+    let a = s .args in
+    let m = a .t1 in
+    let live = read (λ (t : Thread). t .live) (m .threads) _ _ _ (c .before .before .before .before .before .before .index .ensures) (not-false _ (c .before .before .before .if2 .left)) in
+    let held = read (λ (t : Thread). linked (t .hold)) (m .threads) _ _ _ (c .before .before .before .before .before .before .index .ensures) (sym (c .before .before .is-linked .ensures) ∙ not-false _ (c .before .if3 .left)) in
+    accept (Abort (a .n)) m (s .pre) (rw (le-ltb _ _ (c .before .before .before .before .before .before .before .if1 .left), live, held) refl) (abort (a .n) (shown m)) refl _ (c .abort-walks .ensures)
+
+pub dispatch-abort-spec : {M : Type 1} → statement M
+dispatch-abort-spec = tie.close (tie.spec returns index-requires mul-thread element-copy-out-thread returns-2 is-linked-requires returns-3 abort-walks-requires returns-4)

@@ -1,0 +1,129 @@
+use Prim.Native.Nat.{ℕ}
+use mathlib.Core.Path.{_≡_, refl, sym, _∙_, ap}
+use native.Mathlib.Omega.{arith}
+use borrow.Author.Tests.{lt-ltb, le-ltb, eq-eqb, ne-eqb, not-true, not-false}
+use lib.ListN.{length, length-map}
+use Rattle.rules.specs.declared.Thread.{Thread}
+use Rattle.rules.specs.State.{withThreads, holdAt, freeThread}
+use Rattle.dispatcher.specs.Shown.{shown}
+use Rattle.rules.specs.declared.Event.the-variants.{Call}
+use Rattle.rules.specs.Sound.{isIdle, isServer}
+use Rattle.rules.specs.Events.{call, callBy, callDonates, callHelps}
+use Rattle.dispatcher.proofs.Answering.{refuse, accept, sound-stored, sound-shown}
+use Rattle.dispatcher.proofs.Facts.{count-fits}
+use Rattle.dispatcher.proofs.Changes.{read, choosable, call-idle, call-busy}
+use borrow.Author.Needs.{needs}
+use Rattle.dispatcher.proofs.Machine.dispatch_call.Statement.{statement}
+use Rattle.dispatcher.proofs.Machine.dispatch_call.Tie as tie
+use Rattle.dispatcher.proofs.Machine.dispatch_call.Reads as reads
+use Rattle.dispatcher.proofs.Machine.dispatch_call.Lts as lts
+use Rattle.dispatcher.proofs.Machine.call_donates.Reads as call-donates-reads
+use Rattle.dispatcher.proofs.Machine.call_helps.Reads as call-helps-reads
+use Rattle.dispatcher.proofs.events.is_idle.Reads as is-idle-reads
+use Rattle.dispatcher.proofs.events.is_server.Reads as is-server-reads
+use Rattle.dispatcher.proofs.numbers.index.Reads as index-reads
+
+enum-told : tie.Need-enum-told
+enum-told c = search needs
+
+enum-known-running : tie.Need-enum-known-running
+enum-known-running c = search needs
+
+returns : tie.Need-returns
+returns c = let a = c .before .before .before .before .args in refuse (Call (a .server)) (a .t1) 1 (rw (c .before .before .running .given .1, lt-ltb _ _ (c .if1 .taken)) refl)
+
+index-requires : tie.Need-index-requires
+index-requires c κs = search needs
+
+mul-thread : tie.Need-mul-thread
+mul-thread c = search needs
+
+element-copy-out-thread : tie.Need-element-copy-out-thread
+element-copy-out-thread c = search needs
+
+returns-2 : tie.Need-returns-2
+returns-2 c =
+    let a = c .before .before .before .before .before .before .before .before .args in
+    let dead = read (λ (t : Thread). t .live) (a .t1 .threads) _ _ _ (c .before .before .before .index .ensures) (not-true _ (c .if2 .taken)) in
+    refuse (Call (a .server)) (a .t1) 3 (rw (c .before .before .before .before .before .before .running .given .1, le-ltb _ _ (c .before .before .before .before .if1 .left), dead) refl)
+
+is-server-requires : tie.Need-is-server-requires
+is-server-requires c κs = search needs
+
+returns-3 : tie.Need-returns-3
+returns-3 c =
+    let a = c .before .before .before .before .before .before .before .before .before .before .args in
+    let live = read (λ (t : Thread). t .live) (a .t1 .threads) _ _ _ (c .before .before .before .before .before .index .ensures) (not-false _ (c .before .before .if2 .left)) in
+    let client = read (λ (t : Thread). isServer (t .role)) (a .t1 .threads) _ _ _ (c .before .before .before .before .before .index .ensures) (sym (c .before .is-server .ensures) ∙ not-true _ (c .if3 .taken)) in
+    refuse (Call (a .server)) (a .t1) 5 (rw (c .before .before .before .before .before .before .before .before .running .given .1, le-ltb _ _ (c .before .before .before .before .before .before .if1 .left), live, client) refl)
+
+returns-4 : tie.Need-returns-4
+returns-4 c =
+    let a = c .before .before .before .before .before .before .before .before .before .before .before .args in
+    let live = read (λ (t : Thread). t .live) (a .t1 .threads) _ _ _ (c .before .before .before .before .before .before .index .ensures) (not-false _ (c .before .before .before .if2 .left)) in
+    let server = read (λ (t : Thread). isServer (t .role)) (a .t1 .threads) _ _ _ (c .before .before .before .before .before .before .index .ensures) (sym (c .before .before .is-server .ensures) ∙ not-false _ (c .before .if3 .left)) in
+    refuse (Call (a .server)) (a .t1) 6 (rw (c .before .before .before .before .before .before .before .before .before .running .given .1, le-ltb _ _ (c .before .before .before .before .before .before .before .if1 .left), live, server, eq-eqb _ _ (c .if4 .taken)) refl)
+
+is-idle-requires : tie.Need-is-idle-requires
+is-idle-requires c κs = search needs
+
+call-donates-requires : tie.Need-call-donates-requires
+call-donates-requires c κs =
+    let s = c .before .before .before .before .before .before .before .before .before .before .before .before .before in
+    let full : length (s .args .t1 .threads) ≡ 128 = simp length-map at (s .good .0 .1 .1 .0 .1 .0 .1) in
+    (choosable _ (sound-stored _ (s .pre)), count-fits (shown (s .args .t1)) _ _ _ full (sound-shown _ (s .pre)) (c .before .before .before .before .before .before .before .before .before .before .before .running .given .1))
+
+returns-5 : tie.Need-returns-5
+unfolding call
+returns-5 c =
+    let s = c .before .before .before .before .before .before .before .before .before .before .before .before .before .before in
+    let a = s .args in
+    let m = a .t1 in
+    let run = c .before .before .before .before .before .before .before .before .before .before .before .before .running .given in
+    let live = read (λ (t : Thread). t .live) (m .threads) _ _ _ (c .before .before .before .before .before .before .before .before .before .index .ensures) (not-false _ (c .before .before .before .before .before .before .if2 .left)) in
+    let server = read (λ (t : Thread). isServer (t .role)) (m .threads) _ _ _ (c .before .before .before .before .before .before .before .before .before .index .ensures) (sym (c .before .before .before .before .before .is-server .ensures) ∙ not-false _ (c .before .before .before .before .if3 .left)) in
+    let idle = read (λ (t : Thread). isIdle (t .hold)) (m .threads) _ _ _ (c .before .before .before .before .before .before .before .before .before .index .ensures) (sym (c .before .before .is-idle .ensures) ∙ c .before .if5 .taken) in
+    accept (Call (a .server)) m (s .pre) (rw (run .1, le-ltb _ _ (c .before .before .before .before .before .before .before .before .before .before .if1 .left), live, server, ne-eqb _ _ (c .before .before .before .if4 .left)) refl)
+    (callDonates (a .server) (run .0 .0) (run .0 .1 .0) (run .0 .1 .1 .0) (shown m))
+    (call-idle (a .server) _ _ _ (shown m) (holdAt (m .threads) (a .server)) idle ∙ sym (ap (callBy (a .server) (shown m)) (run .1))) _ (c .call-donates .ensures)
+
+call-helps-requires : tie.Need-call-helps-requires
+call-helps-requires c κs = choosable _ (sound-stored _ (c .before .before .before .before .before .before .before .before .before .before .before .before .before .pre))
+
+returns-6 : tie.Need-returns-6
+returns-6 c = let a = c .before .before .args in refuse (Call (a .server)) (a .t1) 4 (rw (c .enum-told .given .1) refl)
+
+returns-7 : tie.Need-returns-7
+unfolding call
+returns-7 c =
+    let s = c .before .before .before .before .before .before .before .before .before .before .before .before .before .before in
+    let a = s .args in
+    let m = a .t1 in
+    let run = c .before .before .before .before .before .before .before .before .before .before .before .before .running .given in
+    let live = read (λ (t : Thread). t .live) (m .threads) _ _ _ (c .before .before .before .before .before .before .before .before .before .index .ensures) (not-false _ (c .before .before .before .before .before .before .if2 .left)) in
+    let server = read (λ (t : Thread). isServer (t .role)) (m .threads) _ _ _ (c .before .before .before .before .before .before .before .before .before .index .ensures) (sym (c .before .before .before .before .before .is-server .ensures) ∙ not-false _ (c .before .before .before .before .if3 .left)) in
+    let busy = read (λ (t : Thread). isIdle (t .hold)) (m .threads) _ _ _ (c .before .before .before .before .before .before .before .before .before .index .ensures) (sym (c .before .before .is-idle .ensures) ∙ c .before .if5 .left) in
+    accept (Call (a .server)) m (s .pre) (rw (run .1, le-ltb _ _ (c .before .before .before .before .before .before .before .before .before .before .if1 .left), live, server, ne-eqb _ _ (c .before .before .before .if4 .left)) refl)
+    (callHelps (a .server) (run .0 .0) (shown m))
+    (call-busy (a .server) (run .0 .0) (run .0 .1 .0) (run .0 .1 .1 .0) (shown m) (holdAt (m .threads) (a .server)) busy ∙ sym (ap (callBy (a .server) (shown m)) (run .1))) _ (c .call-helps .ensures)
+
+pub dispatch-call-spec : {M : Type 1} → statement M
+dispatch-call-spec =
+    tie.close
+    (tie.spec
+    enum-told
+    enum-known-running
+    returns
+    index-requires
+    mul-thread
+    element-copy-out-thread
+    returns-2
+    is-server-requires
+    returns-3
+    returns-4
+    is-idle-requires
+    call-donates-requires
+    returns-5
+    call-helps-requires
+    returns-6
+    returns-7)

@@ -1,0 +1,112 @@
+use Prim.Native.Nat.{ℕ, _<_}
+use mathlib.Core.Path.{_≡_, refl, sym, _∙_, ap}
+use native.Mathlib.Omega.{arith}
+use borrow.Author.Tests.{lt-ltb, le-ltb, eq-eqb, ne-eqb, not-true, not-false}
+use lib.ListN.{length, take, length-map}
+use lib.Seq.{length-take-le}
+use Rattle.rules.specs.declared.Thread.{Thread}
+use Rattle.dispatcher.specs.Shown.{shown}
+use Rattle.rules.specs.declared.Event.the-variants.{Give}
+use Rattle.rules.specs.Events.{give}
+use Rattle.dispatcher.proofs.Answering.{refuse, accept, sound-stored, sound-shown}
+use Rattle.dispatcher.proofs.Stored.{turns-fit}
+use Rattle.dispatcher.proofs.Facts.{numbers, once, room}
+use Rattle.dispatcher.proofs.Given.{gift, gift-shown, gift-exact, given-to}
+use Rattle.dispatcher.proofs.Changes.{read, choosable}
+use borrow.Author.Needs.{needs}
+use Rattle.dispatcher.proofs.Machine.dispatch_give.Statement.{statement}
+use Rattle.dispatcher.proofs.Machine.dispatch_give.Tie as tie
+
+-- the turn order has room for a timeslice that it does not list
+roomy : (c : tie.Else3) → c .before .before .before .before .before .args .t1 .«live_timeslices» < 128
+roomy c =
+    let s = c .before .before .before .before .before in
+    let m = s .args .t1 in
+    let ok = sound-shown m (s .pre) in
+    let fits = turns-fit m (sound-stored m (s .pre)) in
+    let full : length (m .order) ≡ 128 = simp length-map at (s .good .0 .1 .1 .1 .1 .0 .1 .0 .1) in
+    let few = room 128 (s .args .t) (take (m .«live_timeslices») (m .order)) (numbers (shown m) ok) (once (shown m) ok) (omega (arith, c .before .before .before .before .if1 .left)) (sym (c .before .member .ensures) ∙ c .if3 .left) in
+    omega (arith, few, length-take-le (m .«live_timeslices») (m .order) (omega arith))
+
+returns : tie.Need-returns
+returns c = let a = c .before .args in refuse (Give (a .t) (a .n) (a .priority) (a .quantum)) (a .t1) 1 (rw (lt-ltb _ _ (c .if1 .taken)) refl)
+
+returns-2 : tie.Need-returns-2
+returns-2 c = let a = c .before .before .args in refuse (Give (a .t) (a .n) (a .priority) (a .quantum)) (a .t1) 1 (rw (le-ltb _ _ (c .before .if1 .left), lt-ltb _ _ (c .if2 .taken)) refl)
+
+member-requires : tie.Need-member-requires
+member-requires c κs = turns-fit _ (sound-stored _ (c .before .before .before .pre))
+
+returns-3 : tie.Need-returns-3
+returns-3 c =
+    let a = c .before .before .before .before .before .args in
+    refuse (Give (a .t) (a .n) (a .priority) (a .quantum)) (a .t1) 2 (rw (le-ltb _ _ (c .before .before .before .before .if1 .left), le-ltb _ _ (c .before .before .before .if2 .left), sym (c .before .member .ensures) ∙ c .if3 .taken) refl)
+
+index-requires : tie.Need-index-requires
+index-requires c κs = tt
+
+mul-thread : tie.Need-mul-thread
+mul-thread c = search needs
+
+element-copy-out-thread : tie.Need-element-copy-out-thread
+element-copy-out-thread c = search needs
+
+returns-4 : tie.Need-returns-4
+returns-4 c =
+    let a = c .before .before .before .before .before .before .before .before .before .args in
+    let dead = read (λ (t : Thread). t .live) (a .t1 .threads) _ _ _ (c .before .before .before .index .ensures) (not-true _ (c .if4 .taken)) in
+    refuse (Give (a .t) (a .n) (a .priority) (a .quantum)) (a .t1) 3 (rw (le-ltb _ _ (c .before .before .before .before .before .before .before .before .if1 .left), le-ltb _ _ (c .before .before .before .before .before .before .before .if2 .left), sym (c .before .before .before .before .before .member .ensures) ∙ c .before .before .before .before .if3 .left, dead) refl)
+
+owns-one-requires : tie.Need-owns-one-requires
+owns-one-requires c κs = turns-fit _ (sound-stored _ (c .before .before .before .before .before .before .before .before .before .before .pre))
+
+returns-5 : tie.Need-returns-5
+returns-5 c =
+    let a = c .before .before .before .before .before .before .before .before .before .before .before .before .args in
+    let live = read (λ (t : Thread). t .live) (a .t1 .threads) _ _ _ (c .before .before .before .before .before .before .index .ensures) (not-false _ (c .before .before .before .if4 .left)) in
+    refuse (Give (a .t) (a .n) (a .priority) (a .quantum)) (a .t1) 12 (rw (le-ltb _ _ (c .before .before .before .before .before .before .before .before .before .before .before .if1 .left), le-ltb _ _ (c .before .before .before .before .before .before .before .before .before .before .if2 .left), sym (c .before .before .before .before .before .before .before .before .member .ensures) ∙ c .before .before .before .before .before .before .before .if3 .left, live, sym (c .before .owns-one .ensures) ∙ c .if5 .taken) refl)
+
+returns-6 : tie.Need-returns-6
+returns-6 c =
+    let a = c .before .before .before .before .before .before .before .before .before .before .before .before .before .args in
+    let live = read (λ (t : Thread). t .live) (a .t1 .threads) _ _ _ (c .before .before .before .before .before .before .before .index .ensures) (not-false _ (c .before .before .before .before .if4 .left)) in
+    refuse (Give (a .t) (a .n) (a .priority) (a .quantum)) (a .t1) 11 (rw (le-ltb _ _ (c .before .before .before .before .before .before .before .before .before .before .before .before .if1 .left), le-ltb _ _ (c .before .before .before .before .before .before .before .before .before .before .before .if2 .left), sym (c .before .before .before .before .before .before .before .before .before .member .ensures) ∙ c .before .before .before .before .before .before .before .before .if3 .left, live, sym (c .before .before .owns-one .ensures) ∙ c .before .if5 .left, eq-eqb _ _ (c .if6 .taken)) refl)
+
+index-requires-2 : tie.Need-index-requires-2
+index-requires-2 c κs = tt
+
+mul-new : tie.Need-mul-new
+mul-new c = search needs
+
+element-set-from-new : tie.Need-element-set-from-new
+element-set-from-new c = search needs
+
+index-requires-3 : tie.Need-index-requires-3
+index-requires-3 c κs = tt
+
+element-write-self : tie.Need-element-write-self
+element-write-self c = omega (arith, c .index3 .ensures, roomy (c .before .before .before .before .before .before .before .before .before .before))
+
+add-self : tie.Need-add-self
+add-self c = omega (arith, roomy (c .before .before .before .before .before .before .before .before .before .before))
+
+overtaken-requires : tie.Need-overtaken-requires
+overtaken-requires c κs =
+    let s = c .before .before .before .before .before .before .before .before .before .before .before .before .before .before .before in
+    choosable _ (gift-exact (s .args .t1) _ _ _ _ _ _ (c .before .index2 .ensures) (c .index3 .ensures) (roomy (c .before .before .before .before .before .before .before .before .before .before)) (sound-stored _ (s .pre)))
+
+returns-7 : tie.Need-returns-7
+unfolding give
+returns-7 c =
+    let s = c .before .before .before .before .before .before .before .before .before .before .before .before .before .before .before .before in
+    let a = s .args in
+    let m = a .t1 in
+    let full : length (m .order) ≡ 128 = simp length-map at (s .good .0 .1 .1 .1 .1 .0 .1 .0 .1) in
+    let live = read (λ (t : Thread). t .live) (m .threads) _ _ _ (c .before .before .before .before .before .before .before .before .before .before .index .ensures) (not-false _ (c .before .before .before .before .before .before .before .if4 .left)) in
+    accept (Give (a .t) (a .n) (a .priority) (a .quantum)) m (s .pre)
+    (rw (le-ltb _ _ (c .before .before .before .before .before .before .before .before .before .before .before .before .before .before .before .if1 .left), le-ltb _ _ (c .before .before .before .before .before .before .before .before .before .before .before .before .before .before .if2 .left), sym (c .before .before .before .before .before .before .before .before .before .before .before .before .member .ensures) ∙ c .before .before .before .before .before .before .before .before .before .before .before .if3 .left, live, sym (c .before .before .before .before .before .owns-one .ensures) ∙ c .before .before .before .before .if5 .left, ne-eqb _ _ (c .before .before .before .if6 .left)) refl)
+    (give (a .t) (a .n) (a .priority) (a .quantum) (shown m)) refl _
+    (given-to (a .t) (gift m (c .before .before .index2 .result) (c .before .index3 .result) (a .t) (a .n) (a .priority) (a .quantum) (c .before .before .index2 .ensures) (c .before .index3 .ensures) (roomy (c .before .before .before .before .before .before .before .before .before .before .before))) _ _ (gift-shown m (c .before .before .index2 .result) (c .before .index3 .result) (a .t) (a .n) (a .priority) (a .quantum) (c .before .before .index2 .ensures) (c .before .index3 .ensures) (roomy (c .before .before .before .before .before .before .before .before .before .before .before)) full) (c .overtaken .ensures))
+
+pub dispatch-give-spec : {M : Type 1} → statement M
+dispatch-give-spec = tie.close (tie.spec returns returns-2 member-requires returns-3 index-requires mul-thread element-copy-out-thread returns-4 owns-one-requires returns-5 returns-6 index-requires-2 mul-new element-set-from-new index-requires-3 element-write-self add-self overtaken-requires returns-7)

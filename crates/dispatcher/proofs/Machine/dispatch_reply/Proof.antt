@@ -1,0 +1,97 @@
+use Prim.Native.Nat.{ℕ}
+use mathlib.Core.Path.{_≡_, refl, sym, _∙_, ap}
+use native.Mathlib.Omega.{arith}
+use borrow.Author.Tests.{lt-ltb, le-ltb, eq-eqb, ne-eqb, not-true, not-false}
+use lib.ListN.{length, length-map}
+use Rattle.rules.specs.declared.Thread.{Thread}
+use Rattle.rules.specs.State.{withThreads, holdAt, serviceAt, freeThread}
+use Rattle.dispatcher.specs.Shown.{shown}
+use Rattle.rules.specs.declared.Event.the-variants.{Reply}
+use Rattle.rules.specs.declared.Service.{Service}
+use Rattle.rules.specs.Sound.{isServer}
+use Rattle.rules.specs.Threads.{replied}
+use Rattle.rules.specs.Events.{reply, replyBy, replyTo}
+use Rattle.dispatcher.proofs.Answering.{refuse, accept, said-of, sound-stored}
+use Rattle.dispatcher.proofs.Stored.{live-replied}
+use Rattle.dispatcher.proofs.Tables.{past}
+use Rattle.dispatcher.proofs.Changes.{read, choosable, threadsTo, threads-shown, threads-exact}
+use borrow.Author.Needs.{needs}
+use Rattle.dispatcher.proofs.Machine.dispatch_reply.Statement.{statement}
+use Rattle.dispatcher.proofs.Machine.dispatch_reply.Tie as tie
+use Rattle.dispatcher.proofs.Machine.dispatch_reply.Reads as reads
+use Rattle.dispatcher.proofs.Machine.dispatch_reply.Lts as lts
+use Rattle.dispatcher.proofs.Machine.reply_to.Reads as reply-to-reads
+use Rattle.dispatcher.proofs.events.is_server.Reads as is-server-reads
+use Rattle.dispatcher.proofs.numbers.index.Reads as index-reads
+use Rattle.dispatcher.proofs.threads.replied.Reads as replied-reads
+
+enum-told : tie.Need-enum-told
+enum-told c = search needs
+
+enum-known-running : tie.Need-enum-known-running
+enum-known-running c = search needs
+
+index-requires : tie.Need-index-requires
+index-requires c κs = search needs
+
+returns : tie.Need-returns
+returns c =
+    let s = c .before .before .before .before .before in
+    let m = s .args .t1 in
+    let full : length (m .threads) ≡ 128 = simp length-map at (s .good .0 .1 .1 .0 .1 .0 .1) in
+    let client = ap (λ (t : Thread). isServer (t .role)) (past (m .threads) _ _ freeThread full (c .before .index .ensures) (c .if1 .taken)) in
+    refuse Reply m 7 (rw (c .before .before .before .running .given .1, client) refl)
+
+mul-thread : tie.Need-mul-thread
+mul-thread c = search needs
+
+element-copy-out-thread : tie.Need-element-copy-out-thread
+element-copy-out-thread c = search needs
+
+is-server-requires : tie.Need-is-server-requires
+is-server-requires c κs = search needs
+
+returns-2 : tie.Need-returns-2
+returns-2 c =
+    let m = c .before .before .before .before .before .before .before .before .args .t1 in
+    let client = read (λ (t : Thread). isServer (t .role)) (m .threads) _ _ _ (c .before .before .before .before .index .ensures) (sym (c .before .is-server .ensures) ∙ not-true _ (c .if2 .taken)) in
+    refuse Reply m 7 (rw (c .before .before .before .before .before .before .running .given .1, client) refl)
+
+replied-requires : tie.Need-replied-requires
+replied-requires c κs = let m = c .before .before .before .before .before .before .before .before .before .args .t1 in ap (λ (k : ℕ). serviceAt (m .threads) k) (c .before .before .before .before .before .index .ensures)
+
+reply-to-requires : tie.Need-reply-to-requires
+reply-to-requires c κs = let s = c .before .before .before .before .before .before .before .before .before .before in choosable _ (threads-exact (s .args .t1) _ _ (sound-stored _ (s .pre)) (c .replied .ensures) (live-replied _ _))
+
+returns-3 : tie.Need-returns-3
+returns-3 c = let a = c .before .before .args in refuse Reply (a .t1) 4 (rw (c .enum-told .given .1) refl)
+
+returns-4 : tie.Need-returns-4
+unfolding reply
+returns-4 c =
+    let s = c .before .before .before .before .before .before .before .before .before .before .before in
+    let m = s .args .t1 in
+    let run = c .before .before .before .before .before .before .before .before .before .running .given in
+    let server = read (λ (t : Thread). isServer (t .role)) (m .threads) _ _ _ (c .before .before .before .before .before .before .before .index .ensures) (sym (c .before .before .before .before .is-server .ensures) ∙ not-false _ (c .before .before .before .if2 .left)) in
+    let service = ap (λ (k : ℕ). serviceAt (m .threads) k) (c .before .before .before .before .before .before .before .index .ensures) in
+    accept Reply m (s .pre) (rw (run .1, server) refl)
+    (replyTo (run .0 .1 .0) (run .0 .1 .1 .0) (withThreads (replied (run .0 .0) (m .threads)) (shown m)) (serviceAt (m .threads) (c .before .before .before .before .before .before .before .index .result)))
+    (ap (replyTo (run .0 .1 .0) (run .0 .1 .1 .0) (withThreads (replied (run .0 .0) (m .threads)) (shown m))) service ∙ sym (ap (replyBy (shown m)) (run .1))) _
+    (said-of (λ u. replyTo (run .0 .1 .0) (run .0 .1 .1 .0) u (serviceAt (m .threads) (c .before .before .before .before .before .before .before .index .result))) (threadsTo _ m) _ _ (threads-shown m _ _ (c .before .replied .ensures)) (c .reply-to .ensures))
+
+pub dispatch-reply-spec : {M : Type 1} → statement M
+dispatch-reply-spec =
+    tie.close
+    (tie.spec
+    enum-told
+    enum-known-running
+    index-requires
+    returns
+    mul-thread
+    element-copy-out-thread
+    is-server-requires
+    returns-2
+    replied-requires
+    reply-to-requires
+    returns-3
+    returns-4)

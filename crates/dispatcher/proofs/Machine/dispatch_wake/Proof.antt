@@ -1,0 +1,86 @@
+use Prim.Native.Nat.{ℕ}
+use mathlib.Core.Path.{_≡_, refl, sym, _∙_, ap}
+use native.Mathlib.Omega.{arith}
+use borrow.Author.Tests.{lt-ltb, le-ltb, eq-eqb, ne-eqb, not-true, not-false}
+use Rattle.dispatcher.specs.Shown.{shown}
+use Rattle.rules.specs.declared.Event.the-variants.{Wake}
+use Rattle.rules.specs.declared.Hold.the-variants.{Ready}
+use Rattle.rules.specs.declared.Thread.{Thread}
+use Rattle.rules.specs.State.{withThreads}
+use Rattle.rules.specs.Threads.{setHold}
+use Rattle.rules.specs.Sound.{isBlocked}
+use Rattle.rules.specs.Events.{wake, releases}
+use Rattle.dispatcher.proofs.Answering.{refuse, accept, said-of, sound-stored}
+use Rattle.dispatcher.proofs.Stored.{live-hold}
+use Rattle.dispatcher.proofs.Changes.{read, choosable, threadsTo, threads-shown, threads-exact}
+use borrow.Author.Needs.{needs}
+use Rattle.dispatcher.proofs.Machine.dispatch_wake.Statement.{statement}
+use Rattle.dispatcher.proofs.Machine.dispatch_wake.Tie as tie
+use Rattle.dispatcher.proofs.Machine.dispatch_wake.Reads as reads
+use Rattle.dispatcher.proofs.Machine.dispatch_wake.Lts as lts
+use Rattle.dispatcher.proofs.Machine.waiters_released.Reads as waiters-released-reads
+use Rattle.dispatcher.proofs.events.is_blocked.Reads as is-blocked-reads
+use Rattle.dispatcher.proofs.numbers.index.Reads as index-reads
+use Rattle.dispatcher.proofs.threads.with_hold.Reads as with-hold-reads
+
+returns : tie.Need-returns
+returns c = let a = c .before .args in refuse (Wake (a .n)) (a .t1) 1 (rw (lt-ltb _ _ (c .if1 .taken)) refl)
+
+index-requires : tie.Need-index-requires
+index-requires c κs = search needs
+
+mul-thread : tie.Need-mul-thread
+mul-thread c = search needs
+
+element-copy-out-thread : tie.Need-element-copy-out-thread
+element-copy-out-thread c = search needs
+
+returns-2 : tie.Need-returns-2
+returns-2 c =
+    let a = c .before .before .before .before .before .args in
+    let dead = read (λ (t : Thread). t .live) (a .t1 .threads) _ _ _ (c .before .before .before .index .ensures) (not-true _ (c .if2 .taken)) in
+    refuse (Wake (a .n)) (a .t1) 3 (rw (le-ltb _ _ (c .before .before .before .before .if1 .left), dead) refl)
+
+is-blocked-requires : tie.Need-is-blocked-requires
+is-blocked-requires c κs = search needs
+
+returns-3 : tie.Need-returns-3
+returns-3 c =
+    let a = c .before .before .before .before .before .before .before .args in
+    let live = read (λ (t : Thread). t .live) (a .t1 .threads) _ _ _ (c .before .before .before .before .before .index .ensures) (not-false _ (c .before .before .if2 .left)) in
+    let stands = read (λ (t : Thread). isBlocked (t .hold)) (a .t1 .threads) _ _ _ (c .before .before .before .before .before .index .ensures) (sym (c .before .is-blocked .ensures) ∙ not-true _ (c .if3 .taken)) in
+    refuse (Wake (a .n)) (a .t1) 8 (rw (le-ltb _ _ (c .before .before .before .before .before .before .if1 .left), live, stands) refl)
+
+with-hold-requires : tie.Need-with-hold-requires
+with-hold-requires c κs = search needs
+
+waiters-released-requires : tie.Need-waiters-released-requires
+waiters-released-requires c κs =
+    let s = c .before .before .before .before .before .before .before .before .before in
+    choosable _ (threads-exact (s .args .t1) _ _ (sound-stored _ (s .pre)) (c .with-hold .ensures) (live-hold _ _ _))
+
+returns-4 : tie.Need-returns-4
+unfolding wake
+returns-4 c =
+    let s = c .before .before .before .before .before .before .before .before .before .before in
+    let a = s .args in
+    let m = a .t1 in
+    let live = read (λ (t : Thread). t .live) (m .threads) _ _ _ (c .before .before .before .before .before .before .before .before .index .ensures) (not-false _ (c .before .before .before .before .before .if2 .left)) in
+    let blocked = read (λ (t : Thread). isBlocked (t .hold)) (m .threads) _ _ _ (c .before .before .before .before .before .before .before .before .index .ensures) (sym (c .before .before .before .before .is-blocked .ensures) ∙ not-false _ (c .before .before .before .if3 .left)) in
+    accept (Wake (a .n)) m (s .pre) (rw (le-ltb _ _ (c .before .before .before .before .before .before .before .before .before .if1 .left), live, blocked) refl) (releases (a .n) (withThreads (setHold (a .n) Ready (m .threads)) (shown m))) refl _
+    (said-of (releases (a .n)) (threadsTo _ m) _ _ (threads-shown m _ _ (c .before .with-hold .ensures)) (c .waiters-released .ensures))
+
+pub dispatch-wake-spec : {M : Type 1} → statement M
+dispatch-wake-spec =
+    tie.close
+    (tie.spec
+    returns
+    index-requires
+    mul-thread
+    element-copy-out-thread
+    returns-2
+    is-blocked-requires
+    returns-3
+    with-hold-requires
+    waiters-released-requires
+    returns-4)

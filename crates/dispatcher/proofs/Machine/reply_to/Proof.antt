@@ -1,0 +1,69 @@
+use Prim.Native.Nat.{ℕ}
+use mathlib.Core.Path.{_≡_, refl, sym, _∙_, ap}
+use native.Mathlib.Omega.{arith}
+use borrow.Author.Tests.{lt-ltb, le-ltb, eq-eqb, ne-eqb, not-true, not-false}
+use lib.ListN.{length, length-map}
+use Rattle.rules.specs.declared.Thread.{Thread}
+use Rattle.rules.specs.State.{withThreads, holdAt, freeThread}
+use Rattle.dispatcher.specs.Shown.{shown}
+use Rattle.dispatcher.proofs.Answering.{stands}
+use Rattle.rules.specs.Events.{settle, replyTo}
+use Rattle.dispatcher.proofs.Changes.{running-shown, running-exact}
+use borrow.Author.Needs.{needs}
+use Rattle.dispatcher.proofs.Machine.reply_to.Statement.{statement}
+use Rattle.dispatcher.proofs.Machine.reply_to.Tie as tie
+use Rattle.dispatcher.proofs.Machine.reply_to.Reads as reads
+use Rattle.dispatcher.proofs.Machine.reply_to.Lts as lts
+use Rattle.dispatcher.proofs.Machine.choose.Reads as choose-reads
+
+enum-told : tie.Need-enum-told
+enum-told c = search needs
+
+choose-requires : tie.Need-choose-requires
+choose-requires c κs = c .before .before .pre
+
+enum-known-service : tie.Need-enum-known-service
+enum-known-service c = search needs
+
+sub-t10 : tie.Need-sub-t10
+sub-t10 c = search needs
+
+returns : tie.Need-returns
+returns c =
+    let s = c .before .before .before .before .before .before .before in
+    let m = s .args .self in
+    rw (c .before .before .before .before .before .service .given .1, lt-ltb _ _ (c .before .before .before .if1 .taken)) (stands _ _ refl (running-exact m _ _ _ (s .pre .exact) refl refl))
+
+choose-requires-2 : tie.Need-choose-requires-2
+choose-requires-2 c κs = c .before .before .before .before .pre
+
+enum-told-2 : tie.Need-enum-told-2
+enum-told-2 c = search needs
+
+choose-requires-3 : tie.Need-choose-requires-3
+choose-requires-3 c κs = c .before .before .pre
+
+returns-2 : tie.Need-returns-2
+returns-2 c = rw (c .before .enum-told .given .1) (c .choose .ensures)
+
+returns-3 : tie.Need-returns-3
+returns-3 c = rw (c .before .before .before .service .given .1, le-ltb _ _ (c .before .if1 .left)) (c .choose2 .ensures)
+
+returns-4 : tie.Need-returns-4
+returns-4 c = rw (c .before .enum-told2 .given .1) (c .choose3 .ensures)
+
+pub reply-to-spec : {M : Type 1} → statement M
+reply-to-spec =
+    tie.close
+    (tie.spec
+    enum-told
+    choose-requires
+    enum-known-service
+    sub-t10
+    returns
+    choose-requires-2
+    enum-told-2
+    choose-requires-3
+    returns-2
+    returns-3
+    returns-4)
