@@ -13,3 +13,4 @@ pub mod Answering
 pub mod Changes
 pub mod Facts
 pub mod Given
+pub mod Runs
