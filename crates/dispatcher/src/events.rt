@@ -24,6 +24,7 @@ use crate::threads::replied;
 use crate::threads::with_hold;
 use crate::turns::to_back;
 use crate::walk::walk;
+use rules::Event;
 use rules::Hold;
 use rules::Place;
 use rules::Role;
@@ -547,5 +548,27 @@ impl Machine {
             };
         }
         self.abort_walks(n, hold)
+    }
+
+    // Any of the eight.
+    pub fn dispatch(self, e: Event) -> Answered
+        requires { ⌜ soundMachine self ≡ true ⌝ }
+        ensures { λ r. ⌜ Answers (dispatch e (shown self)) self r ⌝ }
+    {
+        match e {
+            Event::Create { thread, role } => self.dispatch_create(thread, role),
+            Event::Give {
+                timeslice,
+                thread,
+                priority,
+                quantum,
+            } => self.dispatch_give(timeslice, thread, priority, quantum),
+            Event::Call { server } => self.dispatch_call(server),
+            Event::Reply => self.dispatch_reply(),
+            Event::Block => self.dispatch_block(),
+            Event::Wake { thread } => self.dispatch_wake(thread),
+            Event::Charge { units } => self.dispatch_charge(units),
+            Event::Abort { thread } => self.dispatch_abort(thread),
+        }
     }
 }
