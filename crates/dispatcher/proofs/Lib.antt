@@ -14,3 +14,5 @@ pub mod Changes
 pub mod Facts
 pub mod Given
 pub mod Runs
+pub mod Clauses
+pub mod Loops

@@ -8,6 +8,7 @@ mod numbers;
 mod order;
 mod release;
 mod settle;
+mod sound;
 mod threads;
 mod turns;
 mod walk;

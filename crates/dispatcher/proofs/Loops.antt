@@ -1,0 +1,126 @@
+-- Loops that test every number below 128, or every entry of the turn order, and end at the first that fails.
+use Prim.Native.Nat.{ℕ, zero, suc, _+_, _≤_, _<_}
+use mathlib.Core.Path.{_≡_, refl, sym, _∙_, ap}
+use mathlib.Core.List.{List, [], _∷_, map, map-append}
+use mathlib.Core.Bool.{Bool, true, false, not, _&&_}
+use native.Mathlib.Omega.{arith}
+use native.Mathlib.Numerals.{add-one}
+use native.Mathlib.Nat.{eq-or-lt-of-le}
+use mathlib.Core.Logic.{⊎-elim}
+use lib.ListN.{length, getD, set, take, drop, length-set, drop-of-length-le}
+use lib.Seq.{drop-cons, take-suc, take-suc-set}
+use Rattle.rules.specs.declared.Thread.{Thread}
+use Rattle.rules.specs.Tests.{member, distinct, all, below}
+use Rattle.rules.specs.State.{limit, freeThread, threadAt, liveThreads, oneMoreIf}
+use Rattle.dispatcher.proofs.Tests.{both}
+use Rattle.dispatcher.proofs.Clauses.{and-no}
+use Rattle.dispatcher.proofs.Along.{Along, here, next, out}
+
+module _ (f : ℕ → Bool) where
+  -- the test holds of the numbers below n
+  pub record Passed (n : ℕ) : Type 0 where
+    pub inside : n ≤ 128
+    pub held : below n f ≡ true
+
+  pub none-yet : Passed 0
+  unfolding below
+  none-yet = record { inside = omega arith; held = refl }
+
+  pub one-more : (n : ℕ) (r : Bool) → Passed n → n < 128 → r ≡ f n → r ≡ true → Passed (n + 1)
+  unfolding below
+  one-more n r p short e h = record { inside = omega arith; held = rw add-one (both (below n f) (f n) (p .held) (sym e ∙ h)) }
+
+  pub passed-all : (n : ℕ) → Passed n → 128 ≤ n → true ≡ below limit f
+  passed-all n p out = let e : n ≡ 128 = omega (arith, p .inside) in sym (rw e at (p .held))
+
+  -- a number fails
+  below-no : (m n : ℕ) → n < m → f n ≡ false → below m f ≡ false
+  unfolding below
+  below-no zero n h e = absurd (omega arith)
+  below-no (suc m) n h e =
+      let le : n ≤ m = omega arith in
+      ⊎-elim (λ same. and-no (below m f) (f m) (ap f (sym same) ∙ e)) (λ less. ap (λ (b : Bool). b && f m) (below-no m n less e)) (eq-or-lt-of-le le)
+
+  pub one-fails : (n : ℕ) (r : Bool) → n < 128 → r ≡ f n → r ≡ false → false ≡ below limit f
+  one-fails n r short e h = sym (below-no 128 n short (sym e ∙ h))
+
+module _ (f : ℕ → Bool) (live : ℕ) (order : List ℕ) (full : length order ≡ 128) (fits : live ≤ 128) where
+  -- an entry passes
+  pub all-more : (n i : ℕ) (r : Bool) → Along (λ l. all f l) live order n i → i < n → r ≡ f (getD order i 0) → r ≡ true → Along (λ l. all f l) live order n (i + 1)
+  unfolding all
+  all-more n i r a short e h =
+      let yes : f (getD order i 0) ≡ true = sym e ∙ h in
+      next (λ l. all f l) live order n i full fits a short (rw yes refl)
+
+  -- an entry fails
+  pub all-fails : (n i : ℕ) (r : Bool) → Along (λ l. all f l) live order n i → i < n → r ≡ f (getD order i 0) → r ≡ false → false ≡ all f (take live order)
+  unfolding all
+  all-fails n i r a short e h =
+      let no : f (getD order i 0) ≡ false = sym e ∙ h in
+      rw no at (here (λ l. all f l) live order n i full fits a short)
+
+  pub all-passed : (n i : ℕ) → Along (λ l. all f l) live order n i → n ≤ i → true ≡ all f (take live order)
+  unfolding all
+  all-passed n i a past = out (λ l. all f l) live order n i a past
+
+-- "once each": no entry stands again after itself
+module _ (live : ℕ) (order : List ℕ) (full : length order ≡ 128) (fits : live ≤ 128) where
+  pub once-more : (n i : ℕ) (r : Bool) → Along (λ l. distinct l) live order n i → i < n → r ≡ member (getD order i 0) (drop (suc i) (take live order)) → r ≡ false
+      → Along (λ l. distinct l) live order n (i + 1)
+  unfolding distinct
+  once-more n i r a short e h =
+      let no : member (getD order i 0) (drop (suc i) (take live order)) ≡ false = sym e ∙ h in
+      next (λ l. distinct l) live order n i full fits a short (rw no refl)
+
+  pub twice : (n i : ℕ) (r : Bool) → Along (λ l. distinct l) live order n i → i < n → r ≡ member (getD order i 0) (drop (suc i) (take live order)) → r ≡ true
+      → false ≡ distinct (take live order)
+  unfolding distinct
+  twice n i r a short e h =
+      let yes : member (getD order i 0) (drop (suc i) (take live order)) ≡ true = sym e ∙ h in
+      rw yes at (here (λ l. distinct l) live order n i full fits a short)
+
+  pub all-once : (n i : ℕ) → Along (λ l. distinct l) live order n i → n ≤ i → true ≡ distinct (take live order)
+  unfolding distinct
+  all-once n i a past = out (λ l. distinct l) live order n i a past
+
+-- the live threads before number i are counted
+pub record Counted (ts : List Thread) (count i : ℕ) : Type 0 where
+  pub inside : i ≤ 128
+  pub few : count ≤ i
+  pub rest : count + liveThreads (drop i ts) ≡ liveThreads ts
+
+pub none-counted : (ts : List Thread) → Counted ts 0 0
+none-counted ts = record { inside = omega arith; few = omega arith; rest = omega arith }
+
+pub one-counted : (ts : List Thread) (count i more : ℕ) → length ts ≡ 128 → Counted ts count i → i < 128 → more ≡ oneMoreIf (threadAt ts i .live) count → Counted ts more (i + 1)
+unfolding liveThreads
+one-counted ts count i more full c short e =
+    let at : liveThreads (drop i ts) ≡ oneMoreIf (threadAt ts i .live) (liveThreads (drop (suc i) ts)) = ap liveThreads (drop-cons ts i freeThread (omega arith)) in
+    go (threadAt ts i .live) at e
+  where
+    go : (b : Bool) → liveThreads (drop i ts) ≡ oneMoreIf b (liveThreads (drop (suc i) ts)) → more ≡ oneMoreIf b count → Counted ts more (i + 1)
+    go true at e = record { inside = omega arith; few = omega (arith, c .few); rest = rw add-one (omega (arith, c .rest)) }
+    go false at e = record { inside = omega arith; few = omega (arith, c .few); rest = rw add-one (omega (arith, c .rest)) }
+
+pub all-counted : (ts : List Thread) (count i : ℕ) → length ts ≡ 128 → Counted ts count i → 128 ≤ i → count ≡ liveThreads ts
+unfolding liveThreads
+all-counted ts count i full c past =
+    let e : liveThreads (drop i ts) ≡ 0 = ap liveThreads (drop-of-length-le ts {i = i} (omega arith)) in
+    omega (arith, c .rest)
+
+-- the entries before i have been mapped
+pub record Mapped (f : ℕ → ℕ) (l to : List ℕ) (i : ℕ) : Type 0 where
+  pub full : length to ≡ 128
+  pub front : take i to ≡ map f (take i l)
+
+pub none-mapped : (f : ℕ → ℕ) (l to : List ℕ) → length to ≡ 128 → Mapped f l to 0
+none-mapped f l to full = record { full = full; front = refl }
+
+pub one-mapped : (f : ℕ → ℕ) (l to : List ℕ) (i v : ℕ) → length l ≡ 128 → Mapped f l to i → i < 128 → v ≡ f (getD l i 0) → Mapped f l (set to i v) (i + 1)
+one-mapped f l to i v long m short e =
+    let inside : i < length to = omega (arith, m .full) in
+    let within : i < length l = omega arith in
+    record {
+      full = length-set to i v ∙ m .full;
+      front = rw (add-one, take-suc-set to i v inside, take-suc l i 0 within, map-append, m .front, e) refl;
+    }
