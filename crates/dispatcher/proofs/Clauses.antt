@@ -2,15 +2,28 @@
 use Prim.Native.Nat.{ℕ, _≤_, _<_}
 use mathlib.Core.Path.{_≡_, refl, sym, _∙_, ap, ap₂}
 use mathlib.Core.List.{List, map}
+use mathlib.Core.Option.{Option, none, some}
 use mathlib.Core.Bool.{Bool, true, false, _&&_, _||_}
 use native.Mathlib.Omega.{arith}
 use lib.ListN.{getD}
 use lib.Dec.{leb, eqb}
-use borrow.Author.Tests.{le-leb, lt-leb, eq-eqb}
+use borrow.Author.Tests.{le-leb, lt-leb, eq-eqb, ne-eqb}
+use Rattle.rules.specs.declared.Chain.{Chain}
+use Rattle.rules.specs.declared.Thread.{Thread}
+use Rattle.rules.specs.declared.Running.{Running}
+use Rattle.rules.specs.declared.Running.the-variants.{Nothing, Runs}
 use Rattle.rules.specs.declared.Place.{Place}
 use Rattle.rules.specs.declared.Timeslice.{Timeslice}
-use Rattle.rules.specs.State.{Slice, sliceAt, placeAt}
-use Rattle.rules.specs.Sound.{inRange, sliceFree}
+use Rattle.rules.specs.State.{Slice, State, sliceAt, placeAt, nothingRuns}
+use Rattle.rules.specs.Walk.{walk, chainOf, verdict, Verdict}
+use Rattle.rules.specs.Release.{inQueue, topmostAt}
+use Rattle.rules.specs.Sound.{inRange, sliceFree, placeGood, runsAs, settledOn, settled}
+use Rattle.dispatcher.specs.declared.choice.Verdict.{Verdict as Said}
+use Rattle.dispatcher.specs.declared.order.Found.{Found}
+use Rattle.dispatcher.specs.declared.order.Found.the-variants.{Nothing as Empty, At}
+use Rattle.dispatcher.specs.Choosing.{verdictOf}
+use Rattle.dispatcher.specs.Sets.{found}
+use Rattle.dispatcher.specs.Parts.{partsOf, placeTest, runsOn}
 use Rattle.dispatcher.specs.Shown.{sliceOf, placeOf, freeTimeslice}
 use Rattle.dispatcher.proofs.Tables.{slice-at, place-at}
 
@@ -41,3 +54,49 @@ place-test f ts t x e = ap (λ (y : Timeslice). f (y .place)) e ∙ sym (ap f (p
 -- one of two tests
 pub either-test : (r a b x y : Bool) → r ≡ (a || b) → a ≡ x → b ≡ y → r ≡ (x || y)
 either-test r a b x y e l m = e ∙ ap₂ _||_ l m
+
+-- both of two tests
+pub both-test : (r a b x y : Bool) → r ≡ (a && b) → a ≡ x → b ≡ y → r ≡ (x && y)
+both-test r a b x y e l m = e ∙ ap₂ _&&_ l m
+
+-- the chain of a timeslice read where it stands
+pub chain-is : (threads : List Thread) (ts : List Timeslice) (t : ℕ) (x : Timeslice) (chain : Chain) → x ≡ getD ts t freeTimeslice → chain ≡ walk threads (x .owner)
+    → chain ≡ chainOf threads (map sliceOf ts) t
+chain-is threads ts t x chain e w = w ∙ ap (walk threads) (slice-test (λ (s : Slice). s .owner) ts t x e)
+
+-- a test of a chain and its verdict
+pub verdict-test : (threads : List Thread) (f : Chain → Verdict → Bool) (chain c : Chain) (said : Said) (r : Bool) → r ≡ f chain (verdictOf said) → verdictOf said ≡ verdict threads chain
+    → chain ≡ c → r ≡ f c (verdict threads c)
+verdict-test threads f chain c said r e v w = e ∙ ap (f chain) v ∙ ap (λ (d : Chain). f d (verdict threads d)) w
+
+-- the test of a place, by the place
+pub place-is : (threads : List Thread) (ts : List Timeslice) (order : List ℕ) (t : ℕ) (x : Timeslice) (p : Place) → x ≡ getD ts t freeTimeslice → x .place ≡ p
+    → placeGood (partsOf threads ts order Nothing) t (chainOf threads (map sliceOf ts) t) p ≡ placeTest threads ts order t
+place-is threads ts order t x p e told =
+    ap (placeGood (partsOf threads ts order Nothing) t (chainOf threads (map sliceOf ts) t)) (sym told ∙ place-test (λ (q : Place). q) ts t x e)
+
+-- the topmost in Queue is the current timeslice
+pub current-is : (threads : List Thread) (ss : List Slice) (q n t count : ℕ) (now : Running) (r : Bool) → now ≡ Runs n t count → t ≡ q
+    → r ≡ runsAs n count (chainOf threads ss q) (verdict threads (chainOf threads ss q)) → r ≡ runsOn threads ss q now
+current-is threads ss q n t count now r told same e = rw (told, eq-eqb t q same) e
+
+pub current-other : (threads : List Thread) (ss : List Slice) (q n t count : ℕ) (now : Running) → now ≡ Runs n t count → (t ≡ q → ⊥) → false ≡ runsOn threads ss q now
+current-other threads ss q n t count now told other = rw (told, ne-eqb t q other) refl
+
+-- what settles a state, by the topmost in Queue
+module _ (s : State) (top : Found) (is : found top ≡ topmostAt inQueue s) (r : Bool) where
+  pub settled-none : top ≡ Empty → r ≡ nothingRuns (s .running) → r ≡ settled s
+  unfolding settled
+  settled-none told e = e ∙ go (s .running) ∙ ap (λ (o : Option ℕ). settledOn s o (s .running)) (sym (ap found told) ∙ is)
+    where
+      go : (now : Running) → nothingRuns now ≡ settledOn s none now
+      go Nothing = refl
+      go (Runs n t count) = refl
+
+  pub settled-some : (q : ℕ) → top ≡ At q → r ≡ runsOn (s .threads) (s .slices) q (s .running) → r ≡ settled s
+  unfolding settled
+  settled-some q told e = e ∙ go (s .running) ∙ ap (λ (o : Option ℕ). settledOn s o (s .running)) (sym (ap found told) ∙ is)
+    where
+      go : (now : Running) → runsOn (s .threads) (s .slices) q now ≡ settledOn s (some q) now
+      go Nothing = refl
+      go (Runs n t count) = refl

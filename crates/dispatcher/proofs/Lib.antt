@@ -16,3 +16,4 @@ pub mod Given
 pub mod Runs
 pub mod Clauses
 pub mod Loops
+pub mod Whole

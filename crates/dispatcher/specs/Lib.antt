@@ -5,3 +5,4 @@ pub mod Releasing
 pub mod Choosing
 pub mod Promise
 pub mod Turning
+pub mod Parts

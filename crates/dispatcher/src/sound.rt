@@ -3,19 +3,33 @@ ghost use mathlib.Core.Path.{_≡_};
 ghost use mathlib.Core.List.{map};
 ghost use mathlib.Core.Bool.{_&&_, _||_};
 ghost use Prim.Native.Nat.{_≤_};
-ghost use lib.ListN.{getD, take};
+ghost use lib.ListN.{getD, take, drop};
 ghost use lib.Dec.{ltb, eqb};
-ghost use Rattle.rules.specs.Tests.{member as memberOf, agree as agreeOf, implies as impliesOf};
-ghost use Rattle.rules.specs.State.{threadAt, sliceAt, placeAt};
+ghost use Rattle.rules.specs.Tests.{member as memberOf, distinct, all, below, agree as agreeOf, implies as impliesOf};
+ghost use Rattle.rules.specs.State.{limit, threadAt, holdAt, serviceAt, liveAt, sliceAt, ownerAt, placeAt, oneMoreIf, liveThreads, nothingRuns};
 ghost use Rattle.rules.specs.Release.{inQueue};
-ghost use Rattle.rules.specs.Sound.{isServer, isReady, isIdle, isCalling, isNobody, isServing, inRange, callIsServed, servedIsCalling, linkTo, linkGood, idleGood, threadFree, sliceFree};
-ghost use Rattle.dispatcher.specs.Shown.{freeTimeslice, sliceOf, placeOf};
+ghost use Rattle.rules.specs.Sound.{isServer, isReady, isIdle, isCalling, isNobody, isServing, inRange, callIsServed, servedIsCalling, linkTo, linkGood, idleGood, threadFree, sliceFree, waitsAt, isStalls, runsAs, ownersLive, freeSlots, shaped, placed, settled};
+ghost use Rattle.rules.specs.Walk.{verdict};
+ghost use Rattle.rules.specs.Order.{standsAbove};
+ghost use Rattle.dispatcher.specs.Choosing.{verdictOf};
+ghost use Rattle.dispatcher.specs.Parts.{Counts, placeTest, partsOf, plainOf, runsOn};
+ghost use Rattle.rules.specs.declared.Running.the-variants.{Nothing as Idling};
+ghost use Rattle.dispatcher.specs.Shown.{freeTimeslice, sliceOf, placeOf, soundMachine};
+use crate::Machine;
+use crate::choice::Verdict;
+use crate::choice::judged;
 use crate::numbers::index;
+use crate::order::Found;
 use crate::order::in_set;
 use crate::order::member;
+use crate::order::stands_above;
+use crate::order::topmost;
+use crate::walk::walk;
+use rules::Chain;
 use rules::Hold;
 use rules::Place;
 use rules::Role;
+use rules::Running;
 use rules::Service;
 use rules::Thread;
 use rules::Timeslice;
@@ -299,4 +313,545 @@ pub fn listed_or_queued(timeslices: [Timeslice; 128], order: [u8; 128], live: u8
     let queued = in_set(place, Place::Queue);
     let listed = member(order, live, t);
     either(listed, queued)
+}
+
+// L, counted.
+pub fn one_more_if(live: bool, count: u8) -> u8
+    requires { ⌜ count ≤ 128 ⌝ }
+    ensures { λ r. ⌜ r ≡ oneMoreIf live count ⌝ }
+{
+    if live {
+        return count + 1;
+    }
+    count
+}
+
+pub fn count_live(threads: [Thread; 128]) -> u8
+    ensures { λ r. ⌜ r ≡ liveThreads threads ⌝ }
+{
+    let mut count: u8 = 0;
+    let mut i: usize = 0;
+    while i < 128 {
+        let t = threads[i];
+        count = one_more_if(t.live, count);
+        i += 1;
+    }
+    count
+}
+
+// Free entries of the turn order hold 0.
+pub fn entries_free(order: [u8; 128], live: u8) -> bool
+    ensures { λ r. ⌜ r ≡ below limit (λ i. ltb i live || eqb (getD order i 0) 0) ⌝ }
+{
+    let mut i: u8 = 0;
+    while i < 128 {
+        let k = index(i);
+        let entry = order[k];
+        if entry_free(i, live, entry) {
+            i += 1;
+        } else {
+            return false;
+        }
+    }
+    true
+}
+
+// The entries from this one on hold t.
+pub fn stands_later(order: [u8; 128], live: u8, from: usize, t: u8) -> bool
+    requires { ⌜ live ≤ 128 ⌝ }
+    requires { ⌜ from ≤ live ⌝ }
+    ensures { λ r. ⌜ r ≡ memberOf t (drop from (take live order)) ⌝ }
+{
+    let n = index(live);
+    let mut i = from;
+    while i < n {
+        let u = order[i];
+        if t == u {
+            return true;
+        }
+        i += 1;
+    }
+    false
+}
+
+// "Once each."
+pub fn listed_once(order: [u8; 128], live: u8) -> bool
+    requires { ⌜ live ≤ 128 ⌝ }
+    ensures { λ r. ⌜ r ≡ distinct (take live order) ⌝ }
+{
+    let n = index(live);
+    let mut i: usize = 0;
+    while i < n {
+        let t = order[i];
+        i += 1;
+        if stands_later(order, live, i, t) {
+            return false;
+        }
+    }
+    true
+}
+
+pub fn numbers_fit(order: [u8; 128], live: u8) -> bool
+    requires { ⌜ live ≤ 128 ⌝ }
+    ensures { λ r. ⌜ r ≡ all (λ t. ltb t limit) (take live order) ⌝ }
+{
+    let n = index(live);
+    let mut i: usize = 0;
+    while i < n {
+        let t = order[i];
+        if t < 128 {
+            i += 1;
+        } else {
+            return false;
+        }
+    }
+    true
+}
+
+// "Owners are live and distinct."
+pub fn owner_live(threads: [Thread; 128], timeslices: [Timeslice; 128], t: u8) -> bool
+    ensures { λ r. ⌜ r ≡ liveAt threads (ownerAt (map sliceOf timeslices) t) ⌝ }
+{
+    let x = timeslice_at(timeslices, t);
+    let owner = thread_at(threads, x.owner);
+    owner.live
+}
+
+pub fn owners_live(
+    threads: [Thread; 128],
+    timeslices: [Timeslice; 128],
+    order: [u8; 128],
+    live: u8,
+) -> bool
+    requires { ⌜ live ≤ 128 ⌝ }
+    ensures { λ r. ⌜ r ≡ all (λ t. liveAt threads (ownerAt (map sliceOf timeslices) t)) (take live order) ⌝ }
+{
+    let n = index(live);
+    let mut i: usize = 0;
+    while i < n {
+        let t = order[i];
+        if owner_live(threads, timeslices, t) {
+            i += 1;
+        } else {
+            return false;
+        }
+    }
+    true
+}
+
+pub fn owners(timeslices: [Timeslice; 128], order: [u8; 128], live: u8) -> [u8; 128]
+    requires { ⌜ live ≤ 128 ⌝ }
+    ensures { λ r. ⌜ take live r ≡ map (λ t. ownerAt (map sliceOf timeslices) t) (take live order) ⌝ }
+{
+    let mut found: [u8; 128] = [0; 128];
+    let n = index(live);
+    let mut i: usize = 0;
+    while i < n {
+        let t = order[i];
+        let x = timeslice_at(timeslices, t);
+        let owner = x.owner;
+        found[i] = owner;
+        i += 1;
+    }
+    found
+}
+
+pub fn ranges_hold(timeslices: [Timeslice; 128], order: [u8; 128], live: u8) -> bool
+    requires { ⌜ live ≤ 128 ⌝ }
+    ensures { λ r. ⌜ r ≡ all (λ t. inRange (sliceAt (map sliceOf timeslices) t)) (take live order) ⌝ }
+{
+    let n = index(live);
+    let mut i: usize = 0;
+    while i < n {
+        let t = order[i];
+        let x = timeslice_at(timeslices, t);
+        if in_range(x) {
+            i += 1;
+        } else {
+            return false;
+        }
+    }
+    true
+}
+
+pub fn calls_served(threads: [Thread; 128]) -> bool
+    ensures { λ r. ⌜ r ≡ below limit (λ n. callIsServed threads n (holdAt threads n) && servedIsCalling threads n (serviceAt threads n)) ⌝ }
+{
+    let mut n: u8 = 0;
+    while n < 128 {
+        let t = thread_at(threads, n);
+        if call_good(threads, n, t) {
+            n += 1;
+        } else {
+            return false;
+        }
+    }
+    true
+}
+
+pub fn links_good(threads: [Thread; 128]) -> bool
+    ensures { λ r. ⌜ r ≡ below limit (λ n. linkGood threads n (holdAt threads n)) ⌝ }
+{
+    let mut n: u8 = 0;
+    while n < 128 {
+        let t = thread_at(threads, n);
+        let hold = t.hold;
+        if link_good(threads, n, hold) {
+            n += 1;
+        } else {
+            return false;
+        }
+    }
+    true
+}
+
+pub fn idles_good(threads: [Thread; 128]) -> bool
+    ensures { λ r. ⌜ r ≡ below limit (λ n. idleGood (threadAt threads n)) ⌝ }
+{
+    let mut n: u8 = 0;
+    while n < 128 {
+        let t = thread_at(threads, n);
+        if idle_good(t) {
+            n += 1;
+        } else {
+            return false;
+        }
+    }
+    true
+}
+
+pub fn free_threads(threads: [Thread; 128]) -> bool
+    ensures { λ r. ⌜ r ≡ below limit (λ n. liveAt threads n || threadFree (threadAt threads n)) ⌝ }
+{
+    let mut n: u8 = 0;
+    while n < 128 {
+        let t = thread_at(threads, n);
+        if live_or_free(t) {
+            n += 1;
+        } else {
+            return false;
+        }
+    }
+    true
+}
+
+pub fn free_timeslices(timeslices: [Timeslice; 128], order: [u8; 128], live: u8) -> bool
+    requires { ⌜ live ≤ 128 ⌝ }
+    ensures { λ r. ⌜ r ≡ below limit (λ t. memberOf t (take live order) || sliceFree (sliceAt (map sliceOf timeslices) t)) ⌝ }
+{
+    let mut t: u8 = 0;
+    while t < 128 {
+        if listed_or_free(timeslices, order, live, t) {
+            t += 1;
+        } else {
+            return false;
+        }
+    }
+    true
+}
+
+pub fn free_places(timeslices: [Timeslice; 128], order: [u8; 128], live: u8) -> bool
+    requires { ⌜ live ≤ 128 ⌝ }
+    ensures { λ r. ⌜ r ≡ below limit (λ t. memberOf t (take live order) || inQueue (placeAt (map placeOf timeslices) t)) ⌝ }
+{
+    let mut t: u8 = 0;
+    while t < 128 {
+        if listed_or_queued(timeslices, order, live, t) {
+            t += 1;
+        } else {
+            return false;
+        }
+    }
+    true
+}
+
+// What the end of a chain says.
+pub fn verdict_of(threads: [Thread; 128], chain: Chain) -> Verdict
+    ensures { λ r. ⌜ verdictOf r ≡ verdict threads chain ⌝ }
+{
+    let last = thread_at(threads, chain.end);
+    let hold = last.hold;
+    judged(chain.looped, hold, chain.links)
+}
+
+// "On: the walk ends there and does not let it run."
+pub fn waits_at(n: u8, chain: Chain, said: Verdict) -> bool
+    ensures { λ r. ⌜ r ≡ waitsAt n chain (verdictOf said) ⌝ }
+{
+    match said {
+        Verdict::Runs => false,
+        Verdict::Retries => false,
+        Verdict::Waits => chain.end == n,
+        Verdict::Stalls => false,
+    }
+}
+
+// "Stalled: the walk loops."
+pub fn is_stalls(said: Verdict) -> bool
+    ensures { λ r. ⌜ r ≡ isStalls (verdictOf said) ⌝ }
+{
+    match said {
+        Verdict::Runs => false,
+        Verdict::Retries => false,
+        Verdict::Waits => false,
+        Verdict::Stalls => true,
+    }
+}
+
+// "Behind: the other is in Queue and stands above."
+pub fn behind_good(timeslices: [Timeslice; 128], order: [u8; 128], live: u8, q: u8, t: u8) -> bool
+    requires { ⌜ live ≤ 128 ⌝ }
+    ensures { λ r. ⌜ r ≡ (memberOf q (take live order) && inQueue (placeAt (map placeOf timeslices) q) && standsAbove (map sliceOf timeslices) (take live order) q t) ⌝ }
+{
+    let x = timeslice_at(timeslices, q);
+    let place = x.place;
+    let listed = member(order, live, q);
+    let queued = in_set(place, Place::Queue);
+    let listed_queued = both(listed, queued);
+    let above = stands_above(timeslices, order, live, q, t);
+    both(listed_queued, above)
+}
+
+pub fn place_good(
+    threads: [Thread; 128],
+    timeslices: [Timeslice; 128],
+    order: [u8; 128],
+    live_threads: u8,
+    live: u8,
+    t: u8,
+) -> bool
+    requires { ⌜ Counts threads «live_threads» live ⌝ }
+    ensures { λ r. ⌜ r ≡ placeTest threads timeslices (take live order) t ⌝ }
+{
+    let x = timeslice_at(timeslices, t);
+    let owner = x.owner;
+    let place = x.place;
+    match place {
+        Place::Queue => true,
+        Place::Behind(q) => behind_good(timeslices, order, live, q, t),
+        Place::On(n) => {
+            let chain = walk(threads, live_threads, owner);
+            let said = verdict_of(threads, chain);
+            waits_at(n, chain, said)
+        }
+        Place::Stalled => {
+            let chain = walk(threads, live_threads, owner);
+            let said = verdict_of(threads, chain);
+            is_stalls(said)
+        }
+    }
+}
+
+pub fn places_good(
+    threads: [Thread; 128],
+    timeslices: [Timeslice; 128],
+    order: [u8; 128],
+    live_threads: u8,
+    live: u8,
+) -> bool
+    requires { ⌜ Counts threads «live_threads» live ⌝ }
+    ensures { λ r. ⌜ r ≡ all (λ t. placeTest threads timeslices (take live order) t) (take live order) ⌝ }
+{
+    let n = index(live);
+    let mut i: usize = 0;
+    while i < n {
+        let t = order[i];
+        if place_good(threads, timeslices, order, live_threads, live, t) {
+            i += 1;
+        } else {
+            return false;
+        }
+    }
+    true
+}
+
+// "Its walk ends, Ready, at the running thread, with the stored count."
+pub fn runs_as(n: u8, count: u8, chain: Chain, said: Verdict) -> bool
+    ensures { λ r. ⌜ r ≡ runsAs n count chain (verdictOf said) ⌝ }
+{
+    match said {
+        Verdict::Runs => {
+            if chain.end == n {
+                return chain.count == count;
+            }
+            false
+        }
+        Verdict::Retries => false,
+        Verdict::Waits => false,
+        Verdict::Stalls => false,
+    }
+}
+
+// Nothing runs, or this timeslice, the topmost in Queue, is the current one.
+pub fn nothing_runs(running: Running) -> bool
+    ensures { λ r. ⌜ r ≡ nothingRuns running ⌝ }
+{
+    match running {
+        Running::Nothing => true,
+        Running::Runs {
+            thread: _,
+            timeslice: _,
+            count: _,
+        } => false,
+    }
+}
+
+pub fn runs_on(
+    threads: [Thread; 128],
+    timeslices: [Timeslice; 128],
+    live_threads: u8,
+    q: u8,
+    running: Running,
+) -> bool
+    requires { ⌜ «live_threads» ≡ liveThreads threads ⌝ }
+    ensures { λ r. ⌜ r ≡ runsOn threads (map sliceOf timeslices) q running ⌝ }
+{
+    match running {
+        Running::Nothing => false,
+        Running::Runs {
+            thread: n,
+            timeslice: t,
+            count: count,
+        } => {
+            if t == q {
+                let x = timeslice_at(timeslices, q);
+                let chain = walk(threads, live_threads, x.owner);
+                let said = verdict_of(threads, chain);
+                return runs_as(n, count, chain, said);
+            }
+            false
+        }
+    }
+}
+
+pub fn is_settled(
+    threads: [Thread; 128],
+    timeslices: [Timeslice; 128],
+    order: [u8; 128],
+    live_threads: u8,
+    live: u8,
+    running: Running,
+) -> bool
+    requires { ⌜ Counts threads «live_threads» live ⌝ }
+    ensures { λ r. ⌜ r ≡ settled (partsOf threads timeslices (take live order) running) ⌝ }
+{
+    let top = topmost(timeslices, order, live, Place::Queue);
+    match top {
+        Found::Nothing => nothing_runs(running),
+        Found::At(q) => runs_on(threads, timeslices, live_threads, q, running),
+    }
+}
+
+pub fn is_placed(
+    threads: [Thread; 128],
+    timeslices: [Timeslice; 128],
+    order: [u8; 128],
+    live_threads: u8,
+    live: u8,
+) -> bool
+    requires { ⌜ Counts threads «live_threads» live ⌝ }
+    ensures { λ r. ⌜ r ≡ placed (partsOf threads timeslices (take live order) Idling) ⌝ }
+{
+    if !places_good(threads, timeslices, order, live_threads, live) {
+        return false;
+    }
+    free_places(timeslices, order, live)
+}
+
+pub fn turns_once(order: [u8; 128], live: u8) -> bool
+    requires { ⌜ live ≤ 128 ⌝ }
+    ensures { λ r. ⌜ r ≡ (all (λ t. ltb t limit) (take live order) && distinct (take live order)) ⌝ }
+{
+    let fit = numbers_fit(order, live);
+    let once = listed_once(order, live);
+    both(fit, once)
+}
+
+pub fn owners_good(
+    threads: [Thread; 128],
+    timeslices: [Timeslice; 128],
+    order: [u8; 128],
+    live: u8,
+) -> bool
+    requires { ⌜ live ≤ 128 ⌝ }
+    ensures { λ r. ⌜ r ≡ ownersLive (plainOf threads timeslices (take live order)) ⌝ }
+{
+    let all_live = owners_live(threads, timeslices, order, live);
+    let listed = owners(timeslices, order, live);
+    let once = listed_once(listed, live);
+    both(all_live, once)
+}
+
+pub fn free_slots(
+    threads: [Thread; 128],
+    timeslices: [Timeslice; 128],
+    order: [u8; 128],
+    live: u8,
+) -> bool
+    requires { ⌜ live ≤ 128 ⌝ }
+    ensures { λ r. ⌜ r ≡ freeSlots (plainOf threads timeslices (take live order)) ⌝ }
+{
+    let free = free_threads(threads);
+    let unlisted = free_timeslices(timeslices, order, live);
+    both(free, unlisted)
+}
+
+pub fn is_shaped(
+    threads: [Thread; 128],
+    timeslices: [Timeslice; 128],
+    order: [u8; 128],
+    live: u8,
+) -> bool
+    requires { ⌜ live ≤ 128 ⌝ }
+    ensures { λ r. ⌜ r ≡ shaped (plainOf threads timeslices (take live order)) ⌝ }
+{
+    if !turns_once(order, live) {
+        return false;
+    }
+    if !owners_good(threads, timeslices, order, live) {
+        return false;
+    }
+    if !ranges_hold(timeslices, order, live) {
+        return false;
+    }
+    if !calls_served(threads) {
+        return false;
+    }
+    if !links_good(threads) {
+        return false;
+    }
+    if !idles_good(threads) {
+        return false;
+    }
+    free_slots(threads, timeslices, order, live)
+}
+
+impl Machine {
+    // True counts, 0 in the free entries of the turn order, and the state shown is sound.
+    pub fn is_sound(self) -> bool
+        ensures { λ r. ⌜ r ≡ soundMachine self ⌝ }
+    {
+        let threads = self.threads;
+        let timeslices = self.timeslices;
+        let order = self.order;
+        let live_threads = self.live_threads;
+        let live = self.live_timeslices;
+        let running = self.running;
+        if live_threads != count_live(threads) {
+            return false;
+        }
+        if 128 < live {
+            return false;
+        }
+        if !entries_free(order, live) {
+            return false;
+        }
+        if !is_shaped(threads, timeslices, order, live) {
+            return false;
+        }
+        if !is_placed(threads, timeslices, order, live_threads, live) {
+            return false;
+        }
+        is_settled(threads, timeslices, order, live_threads, live, running)
+    }
 }
