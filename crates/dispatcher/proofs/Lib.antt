@@ -13,7 +13,8 @@ pub mod Answering
 pub mod Changes
 pub mod Facts
 pub mod Given
-pub mod Runs
 pub mod Clauses
 pub mod Loops
 pub mod Whole
+pub mod Offering
+pub mod Runs

@@ -4,6 +4,7 @@ ghost use Rattle.dispatcher.specs.Shown.{emptyMachine};
 
 mod choice;
 mod events;
+mod methods;
 mod numbers;
 mod order;
 mod release;

@@ -1,0 +1,22 @@
+use mathlib.Core.Path.{sym, _∙_}
+use borrow.Author.Needs.{needs}
+use borrow.Author.Tests.{not-true, not-false}
+use Rattle.dispatcher.proofs.Offering.{unsound-refused, sound-dispatched}
+use Rattle.dispatcher.proofs.Machine.wake.Statement.{statement}
+use Rattle.dispatcher.proofs.Machine.wake.Tie as tie
+
+is-sound-requires : tie.Need-is-sound-requires
+is-sound-requires c κs = search needs
+
+returns : tie.Need-returns
+returns c = unsound-refused _ _ (sym (c .before .is-sound .ensures) ∙ not-true _ (c .if1 .taken))
+
+dispatch-wake-requires : tie.Need-dispatch-wake-requires
+dispatch-wake-requires c κs = sym (c .before .is-sound .ensures) ∙ not-false _ (c .if1 .left)
+
+returns-2 : tie.Need-returns-2
+returns-2 c =
+    sound-dispatched _ _ _ (sym (c .before .before .is-sound .ensures) ∙ not-false _ (c .before .if1 .left)) (c .dispatch-wake .ensures)
+
+pub wake-spec : {M : Type 1} → statement M
+wake-spec = tie.close (tie.spec is-sound-requires returns dispatch-wake-requires returns-2)
