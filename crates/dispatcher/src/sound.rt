@@ -294,21 +294,19 @@ pub fn entry_free(i: u8, live: u8, entry: u8) -> bool
     entry == 0
 }
 
-pub fn listed_or_free(timeslices: [Timeslice; 128], order: [u8; 128], live: u8, t: u8) -> bool
+pub fn listed_or_free(x: Timeslice, order: [u8; 128], live: u8, t: u8) -> bool
     requires { ⌜ live ≤ 128 ⌝ }
-    ensures { λ r. ⌜ r ≡ (memberOf t (take live order) || sliceFree (sliceAt (map sliceOf timeslices) t)) ⌝ }
+    ensures { λ r. ⌜ r ≡ (memberOf t (take live order) || sliceFree (sliceOf x)) ⌝ }
 {
-    let x = timeslice_at(timeslices, t);
     let free = slice_free(x);
     let listed = member(order, live, t);
     either(listed, free)
 }
 
-pub fn listed_or_queued(timeslices: [Timeslice; 128], order: [u8; 128], live: u8, t: u8) -> bool
+pub fn listed_or_queued(x: Timeslice, order: [u8; 128], live: u8, t: u8) -> bool
     requires { ⌜ live ≤ 128 ⌝ }
-    ensures { λ r. ⌜ r ≡ (memberOf t (take live order) || inQueue (placeAt (map placeOf timeslices) t)) ⌝ }
+    ensures { λ r. ⌜ r ≡ (memberOf t (take live order) || inQueue (x .place)) ⌝ }
 {
-    let x = timeslice_at(timeslices, t);
     let place = x.place;
     let queued = in_set(place, Place::Queue);
     let listed = member(order, live, t);
@@ -479,7 +477,8 @@ pub fn calls_served(threads: [Thread; 128]) -> bool
 {
     let mut n: u8 = 0;
     while n < 128 {
-        let t = thread_at(threads, n);
+        let k = index(n);
+        let t = threads[k];
         if call_good(threads, n, t) {
             n += 1;
         } else {
@@ -494,7 +493,8 @@ pub fn links_good(threads: [Thread; 128]) -> bool
 {
     let mut n: u8 = 0;
     while n < 128 {
-        let t = thread_at(threads, n);
+        let k = index(n);
+        let t = threads[k];
         let hold = t.hold;
         if link_good(threads, n, hold) {
             n += 1;
@@ -510,7 +510,8 @@ pub fn idles_good(threads: [Thread; 128]) -> bool
 {
     let mut n: u8 = 0;
     while n < 128 {
-        let t = thread_at(threads, n);
+        let k = index(n);
+        let t = threads[k];
         if idle_good(t) {
             n += 1;
         } else {
@@ -525,7 +526,8 @@ pub fn free_threads(threads: [Thread; 128]) -> bool
 {
     let mut n: u8 = 0;
     while n < 128 {
-        let t = thread_at(threads, n);
+        let k = index(n);
+        let t = threads[k];
         if live_or_free(t) {
             n += 1;
         } else {
@@ -541,7 +543,9 @@ pub fn free_timeslices(timeslices: [Timeslice; 128], order: [u8; 128], live: u8)
 {
     let mut t: u8 = 0;
     while t < 128 {
-        if listed_or_free(timeslices, order, live, t) {
+        let k = index(t);
+        let x = timeslices[k];
+        if listed_or_free(x, order, live, t) {
             t += 1;
         } else {
             return false;
@@ -556,7 +560,9 @@ pub fn free_places(timeslices: [Timeslice; 128], order: [u8; 128], live: u8) -> 
 {
     let mut t: u8 = 0;
     while t < 128 {
-        if listed_or_queued(timeslices, order, live, t) {
+        let k = index(t);
+        let x = timeslices[k];
+        if listed_or_queued(x, order, live, t) {
             t += 1;
         } else {
             return false;

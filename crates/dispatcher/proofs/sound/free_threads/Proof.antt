@@ -1,9 +1,9 @@
-use Prim.Native.Nat.{_-_}
+use Prim.Native.Nat.{ℕ, _-_}
 use native.Mathlib.Omega.{arith}
+use borrow.Author.Needs.{needs}
 use Rattle.dispatcher.proofs.Loops.{Passed, none-yet, one-more, one-fails, passed-all}
 use mathlib.Core.Path.{_∙_, ap}
 use mathlib.Core.Bool.{_||_}
-use Rattle.rules.specs.declared.Thread.{Thread}
 use Rattle.rules.specs.State.{threadAt, liveAt}
 use Rattle.rules.specs.Sound.{threadFree}
 use Rattle.dispatcher.proofs.sound.free_threads.Statement.{statement}
@@ -18,8 +18,14 @@ abbrev μ-loop : tie.MeasureT-loop
 loop-holds : tie.Need-loop-holds Inv-loop μ-loop
 loop-holds c = none-yet _
 
-thread-at-requires : tie.Need-thread-at-requires Inv-loop μ-loop
-thread-at-requires c κs = tt
+index-requires : tie.Need-index-requires Inv-loop μ-loop
+index-requires c κs = tt
+
+mul-t : tie.Need-mul-t Inv-loop μ-loop
+mul-t c = search needs
+
+array-copy-out-t : tie.Need-array-copy-out-t Inv-loop μ-loop
+array-copy-out-t c = omega arith
 
 live-or-free-requires : tie.Need-live-or-free-requires Inv-loop μ-loop
 live-or-free-requires c κs = tt
@@ -31,10 +37,18 @@ loop-less : tie.Need-loop-less Inv-loop μ-loop
 loop-less c = omega arith
 
 loop-again : tie.Need-loop-again Inv-loop μ-loop
-loop-again c = one-more _ _ _ (c .before .before .before .before .loop .inv) (c .before .before .before .loop-test .taken) (c .before .live-or-free .ensures ∙ ap (λ (t : Thread). t .live || threadFree t) (c .before .before .thread-at .ensures)) (c .if1 .taken)
+loop-again c = 
+    let s = c .before .before .before .before .before .before in
+    let index = c .before .before .before .index .ensures in
+    let test = c .before .live-or-free .ensures ∙ ap (λ (i : ℕ). liveAt (s .args .t1) i || threadFree (threadAt (s .args .t1) i)) index in
+    one-more _ _ _ (c .before .before .before .before .before .loop .inv) (c .before .before .before .before .loop-test .taken) test (c .if1 .taken)
 
 returns : tie.Need-returns Inv-loop μ-loop
-returns c = one-fails _ _ _ (c .before .before .before .loop-test .taken) (c .before .live-or-free .ensures ∙ ap (λ (t : Thread). t .live || threadFree t) (c .before .before .thread-at .ensures)) (c .if1 .left)
+returns c = 
+    let s = c .before .before .before .before .before .before in
+    let index = c .before .before .before .index .ensures in
+    let test = c .before .live-or-free .ensures ∙ ap (λ (i : ℕ). liveAt (s .args .t1) i || threadFree (threadAt (s .args .t1) i)) index in
+    one-fails _ _ _ (c .before .before .before .before .loop-test .taken) test (c .if1 .left)
 
 returns-2 : tie.Need-returns-2 Inv-loop μ-loop
 returns-2 c = passed-all _ _ (c .before .loop .inv) (c .loop-test .left)
@@ -46,7 +60,9 @@ free-threads-spec =
     Inv-loop
     μ-loop
     loop-holds
-    thread-at-requires
+    index-requires
+    mul-t
+    array-copy-out-t
     live-or-free-requires
     add-n
     loop-less
