@@ -4,7 +4,6 @@ use mathlib.Core.Path.{_≡_, refl, sym, _∙_, ap, ap₂}
 use mathlib.Core.List.{List, map}
 use mathlib.Core.Option.{Option, none, some}
 use mathlib.Core.Bool.{Bool, true, false, _&&_, _||_}
-use native.Mathlib.Omega.{arith}
 use lib.ListN.{getD}
 use lib.Dec.{leb, eqb}
 use borrow.Author.Tests.{le-leb, lt-leb, eq-eqb, ne-eqb}
@@ -45,10 +44,12 @@ pub last-free : (x : Slice) → x .owner ≡ 0 → x .priority ≡ 0 → x .quan
 last-free x o p q = rw (eq-eqb (x .owner) 0 o, eq-eqb (x .priority) 0 p, eq-eqb (x .quantum) 0 q) refl
 
 -- a test of a timeslice read where it stands
-pub slice-test : {A : Type 0} (f : Slice → A) (ts : List Timeslice) (t : ℕ) (x : Timeslice) → x ≡ getD ts t freeTimeslice → f (sliceOf x) ≡ f (sliceAt (map sliceOf ts) t)
+pub slice-test : {A : Type 0} (f : Slice → A) (ts : List Timeslice) (t : ℕ) (x : Timeslice) → x ≡ getD ts t freeTimeslice
+    → f (sliceOf x) ≡ f (sliceAt (map sliceOf ts) t)
 slice-test f ts t x e = ap (λ (y : Timeslice). f (sliceOf y)) e ∙ sym (ap f (slice-at ts t))
 
-pub place-test : {A : Type 0} (f : Place → A) (ts : List Timeslice) (t : ℕ) (x : Timeslice) → x ≡ getD ts t freeTimeslice → f (x .place) ≡ f (placeAt (map placeOf ts) t)
+pub place-test : {A : Type 0} (f : Place → A) (ts : List Timeslice) (t : ℕ) (x : Timeslice) → x ≡ getD ts t freeTimeslice
+    → f (x .place) ≡ f (placeAt (map placeOf ts) t)
 place-test f ts t x e = ap (λ (y : Timeslice). f (y .place)) e ∙ sym (ap f (place-at ts t))
 
 -- one of two tests
@@ -60,27 +61,32 @@ pub both-test : (r a b x y : Bool) → r ≡ (a && b) → a ≡ x → b ≡ y �
 both-test r a b x y e l m = e ∙ ap₂ _&&_ l m
 
 -- the chain of a timeslice read where it stands
-pub chain-is : (threads : List Thread) (ts : List Timeslice) (t : ℕ) (x : Timeslice) (chain : Chain) → x ≡ getD ts t freeTimeslice → chain ≡ walk threads (x .owner)
+pub chain-is : (threads : List Thread) (ts : List Timeslice) (t : ℕ) (x : Timeslice) (chain : Chain) → x ≡ getD ts t freeTimeslice
+    → chain ≡ walk threads (x .owner)
     → chain ≡ chainOf threads (map sliceOf ts) t
 chain-is threads ts t x chain e w = w ∙ ap (walk threads) (slice-test (λ (s : Slice). s .owner) ts t x e)
 
 -- a test of a chain and its verdict
-pub verdict-test : (threads : List Thread) (f : Chain → Verdict → Bool) (chain c : Chain) (said : Said) (r : Bool) → r ≡ f chain (verdictOf said) → verdictOf said ≡ verdict threads chain
+pub verdict-test : (threads : List Thread) (f : Chain → Verdict → Bool) (chain c : Chain) (said : Said) (r : Bool)
+    → r ≡ f chain (verdictOf said) → verdictOf said ≡ verdict threads chain
     → chain ≡ c → r ≡ f c (verdict threads c)
 verdict-test threads f chain c said r e v w = e ∙ ap (f chain) v ∙ ap (λ (d : Chain). f d (verdict threads d)) w
 
 -- the test of a place, by the place
-pub place-is : (threads : List Thread) (ts : List Timeslice) (order : List ℕ) (t : ℕ) (x : Timeslice) (p : Place) → x ≡ getD ts t freeTimeslice → x .place ≡ p
+pub place-is : (threads : List Thread) (ts : List Timeslice) (order : List ℕ) (t : ℕ) (x : Timeslice) (p : Place)
+    → x ≡ getD ts t freeTimeslice → x .place ≡ p
     → placeGood (partsOf threads ts order Nothing) t (chainOf threads (map sliceOf ts) t) p ≡ placeTest threads ts order t
 place-is threads ts order t x p e told =
     ap (placeGood (partsOf threads ts order Nothing) t (chainOf threads (map sliceOf ts) t)) (sym told ∙ place-test (λ (q : Place). q) ts t x e)
 
 -- the topmost in Queue is the current timeslice
-pub current-is : (threads : List Thread) (ss : List Slice) (q n t count : ℕ) (now : Running) (r : Bool) → now ≡ Runs n t count → t ≡ q
+pub current-is : (threads : List Thread) (ss : List Slice) (q n t count : ℕ) (now : Running) (r : Bool) → now ≡ Runs n t count
+    → t ≡ q
     → r ≡ runsAs n count (chainOf threads ss q) (verdict threads (chainOf threads ss q)) → r ≡ runsOn threads ss q now
 current-is threads ss q n t count now r told same e = rw (told, eq-eqb t q same) e
 
-pub current-other : (threads : List Thread) (ss : List Slice) (q n t count : ℕ) (now : Running) → now ≡ Runs n t count → (t ≡ q → ⊥) → false ≡ runsOn threads ss q now
+pub current-other : (threads : List Thread) (ss : List Slice) (q n t count : ℕ) (now : Running) → now ≡ Runs n t count
+    → (t ≡ q → ⊥) → false ≡ runsOn threads ss q now
 current-other threads ss q n t count now told other = rw (told, ne-eqb t q other) refl
 
 -- what settles a state, by the topmost in Queue

@@ -2,7 +2,7 @@
 use Prim.Native.Nat.{ℕ, zero, suc, _+_, _≤_, _<_}
 use mathlib.Core.Path.{_≡_, refl, sym, _∙_, ap}
 use mathlib.Core.List.{List, [], _∷_, map, map-append}
-use mathlib.Core.Bool.{Bool, true, false, not, _&&_}
+use mathlib.Core.Bool.{Bool, true, false, _&&_}
 use native.Mathlib.Omega.{arith}
 use native.Mathlib.Numerals.{add-one}
 use native.Mathlib.Nat.{eq-or-lt-of-le}
@@ -47,14 +47,16 @@ module _ (f : ℕ → Bool) where
 
 module _ (f : ℕ → Bool) (live : ℕ) (order : List ℕ) (full : length order ≡ 128) (fits : live ≤ 128) where
   -- an entry passes
-  pub all-more : (n i : ℕ) (r : Bool) → Along (λ l. all f l) live order n i → i < n → r ≡ f (getD order i 0) → r ≡ true → Along (λ l. all f l) live order n (i + 1)
+  pub all-more : (n i : ℕ) (r : Bool) → Along (λ l. all f l) live order n i → i < n → r ≡ f (getD order i 0) → r ≡ true
+      → Along (λ l. all f l) live order n (i + 1)
   unfolding all
   all-more n i r a short e h =
       let yes : f (getD order i 0) ≡ true = sym e ∙ h in
       next (λ l. all f l) live order n i full fits a short (rw yes refl)
 
   -- an entry fails
-  pub all-fails : (n i : ℕ) (r : Bool) → Along (λ l. all f l) live order n i → i < n → r ≡ f (getD order i 0) → r ≡ false → false ≡ all f (take live order)
+  pub all-fails : (n i : ℕ) (r : Bool) → Along (λ l. all f l) live order n i → i < n → r ≡ f (getD order i 0) → r ≡ false
+      → false ≡ all f (take live order)
   unfolding all
   all-fails n i r a short e h =
       let no : f (getD order i 0) ≡ false = sym e ∙ h in
@@ -74,7 +76,8 @@ module _ {A : Type 0} (f : List ℕ → A) (live : ℕ) (order : List ℕ) (from
   pub begin-at : (n : ℕ) → n ≡ live → from ≤ live → After n from
   begin-at n e h = record { last = e; inside = h; rest = refl }
 
-  pub here-at : (n i : ℕ) → length order ≡ 128 → live ≤ 128 → After n i → i < n → f (getD order i 0 ∷ drop (suc i) (take live order)) ≡ f (drop from (take live order))
+  pub here-at : (n i : ℕ) → length order ≡ 128 → live ≤ 128 → After n i → i < n
+      → f (getD order i 0 ∷ drop (suc i) (take live order)) ≡ f (drop from (take live order))
   here-at n i full fits a short = sym (ap f (turn order live i full fits (omega (arith, a .last)))) ∙ a .rest
 
   pub next-at : (n i : ℕ) → length order ≡ 128 → live ≤ 128 → After n i → i < n
@@ -87,14 +90,16 @@ module _ {A : Type 0} (f : List ℕ → A) (live : ℕ) (order : List ℕ) (from
 
 -- "once each": no entry stands again after itself
 module _ (live : ℕ) (order : List ℕ) (full : length order ≡ 128) (fits : live ≤ 128) where
-  pub once-more : (n i : ℕ) (r : Bool) → Along (λ l. distinct l) live order n i → i < n → r ≡ member (getD order i 0) (drop (suc i) (take live order)) → r ≡ false
+  pub once-more : (n i : ℕ) (r : Bool) → Along (λ l. distinct l) live order n i → i < n
+      → r ≡ member (getD order i 0) (drop (suc i) (take live order)) → r ≡ false
       → Along (λ l. distinct l) live order n (i + 1)
   unfolding distinct
   once-more n i r a short e h =
       let no : member (getD order i 0) (drop (suc i) (take live order)) ≡ false = sym e ∙ h in
       next (λ l. distinct l) live order n i full fits a short (rw no refl)
 
-  pub twice : (n i : ℕ) (r : Bool) → Along (λ l. distinct l) live order n i → i < n → r ≡ member (getD order i 0) (drop (suc i) (take live order)) → r ≡ true
+  pub twice : (n i : ℕ) (r : Bool) → Along (λ l. distinct l) live order n i → i < n
+      → r ≡ member (getD order i 0) (drop (suc i) (take live order)) → r ≡ true
       → false ≡ distinct (take live order)
   unfolding distinct
   twice n i r a short e h =
@@ -114,13 +119,15 @@ pub record Counted (ts : List Thread) (count i : ℕ) : Type 0 where
 pub none-counted : (ts : List Thread) → Counted ts 0 0
 none-counted ts = record { inside = omega arith; few = omega arith; rest = omega arith }
 
-pub one-counted : (ts : List Thread) (count i more : ℕ) → length ts ≡ 128 → Counted ts count i → i < 128 → more ≡ oneMoreIf (threadAt ts i .live) count → Counted ts more (i + 1)
+pub one-counted : (ts : List Thread) (count i more : ℕ) → length ts ≡ 128 → Counted ts count i → i < 128
+    → more ≡ oneMoreIf (threadAt ts i .live) count → Counted ts more (i + 1)
 unfolding liveThreads
 one-counted ts count i more full c short e =
     let at : liveThreads (drop i ts) ≡ oneMoreIf (threadAt ts i .live) (liveThreads (drop (suc i) ts)) = ap liveThreads (drop-cons ts i freeThread (omega arith)) in
     go (threadAt ts i .live) at e
   where
-    go : (b : Bool) → liveThreads (drop i ts) ≡ oneMoreIf b (liveThreads (drop (suc i) ts)) → more ≡ oneMoreIf b count → Counted ts more (i + 1)
+    go : (b : Bool) → liveThreads (drop i ts) ≡ oneMoreIf b (liveThreads (drop (suc i) ts)) → more ≡ oneMoreIf b count
+        → Counted ts more (i + 1)
     go true at e = record { inside = omega arith; few = omega (arith, c .few); rest = rw add-one (omega (arith, c .rest)) }
     go false at e = record { inside = omega arith; few = omega (arith, c .few); rest = rw add-one (omega (arith, c .rest)) }
 
@@ -138,7 +145,8 @@ pub record Mapped (f : ℕ → ℕ) (l to : List ℕ) (i : ℕ) : Type 0 where
 pub none-mapped : (f : ℕ → ℕ) (l to : List ℕ) → length to ≡ 128 → Mapped f l to 0
 none-mapped f l to full = record { full = full; front = refl }
 
-pub one-mapped : (f : ℕ → ℕ) (l to : List ℕ) (i v : ℕ) → length l ≡ 128 → Mapped f l to i → i < 128 → v ≡ f (getD l i 0) → Mapped f l (set to i v) (i + 1)
+pub one-mapped : (f : ℕ → ℕ) (l to : List ℕ) (i v : ℕ) → length l ≡ 128 → Mapped f l to i → i < 128 → v ≡ f (getD l i 0)
+    → Mapped f l (set to i v) (i + 1)
 one-mapped f l to i v long m short e =
     let inside : i < length to = omega (arith, m .full) in
     let within : i < length l = omega arith in

@@ -21,7 +21,7 @@ use Rattle.rules.specs.Release.{inQueue}
 use Rattle.rules.specs.Sound.{tablesFull, turnsOnce, ownersLive, rangesHold, callsServed, linksGood, idlesGood, freeSlots, shaped, placeGood, placed, settled, sound}
 use Rattle.dispatcher.specs.declared.Machine.{Machine}
 use Rattle.dispatcher.specs.Shown.{sliceOf, shown, stored, soundMachine}
-use Rattle.dispatcher.specs.Parts.{partsOf, plainOf, placeTest}
+use Rattle.dispatcher.specs.Parts.{partsOf, plainOf}
 use Rattle.dispatcher.proofs.Tests.{and-left, and-right, both}
 use Rattle.dispatcher.proofs.Stored.{live-is, turns-fit}
 
@@ -82,7 +82,8 @@ shaped-last p r full s e =
     e ∙ sym (ap (λ (h : Bool). h && freeSlots p) g)
 
 -- the tables of a stored machine are full
-pub tables-full : (threads : List Thread) (ts : List Timeslice) (order : List ℕ) → length threads ≡ 128 → length ts ≡ 128 → tablesFull (plainOf threads ts order) ≡ true
+pub tables-full : (threads : List Thread) (ts : List Timeslice) (order : List ℕ) → length threads ≡ 128 → length ts ≡ 128
+    → tablesFull (plainOf threads ts order) ≡ true
 tables-full threads ts order full long =
     both (eqb (length threads) limit) (eqb (length (map sliceOf ts)) limit) (eq-eqb (length threads) 128 full) (eq-eqb (length (map sliceOf ts)) 128 (length-map ts sliceOf ∙ long))
 
@@ -114,7 +115,8 @@ place-running threads ts order now t c (Behind q) = refl
 place-running threads ts order now t c (On n) = refl
 place-running threads ts order now t c Stalled = refl
 
-pub placed-running : (threads : List Thread) (ts : List Timeslice) (order : List ℕ) (now : Running) → placed (partsOf threads ts order Nothing) ≡ placed (partsOf threads ts order now)
+pub placed-running : (threads : List Thread) (ts : List Timeslice) (order : List ℕ) (now : Running)
+    → placed (partsOf threads ts order Nothing) ≡ placed (partsOf threads ts order now)
 unfolding placed
 placed-running threads ts order now =
     let s = partsOf threads ts order now in
@@ -172,8 +174,10 @@ module _ (m : Machine) where
       (λ ok. and-right (shaped (forget (shown m))) (placed (shown m)) (and-left shape-and-places (settled (shown m)) (is-sound ok)))
       (sym placed-is ∙ sym e ∙ fails)
 
-  pub settled-last : (n : ℕ) (a b r : Bool) → n ≡ liveThreads (m .threads) → m .«live_threads» ≡ n → m .«live_timeslices» ≤ 128 → entries ≡ true
-      → a ≡ shaped (plainOf (m .threads) (m .timeslices) turns) → a ≡ true → b ≡ placed (partsOf (m .threads) (m .timeslices) turns Nothing) → b ≡ true
+  pub settled-last : (n : ℕ) (a b r : Bool) → n ≡ liveThreads (m .threads) → m .«live_threads» ≡ n → m .«live_timeslices» ≤ 128
+      → entries ≡ true
+      → a ≡ shaped (plainOf (m .threads) (m .timeslices) turns) → a ≡ true
+      → b ≡ placed (partsOf (m .threads) (m .timeslices) turns Nothing) → b ≡ true
       → r ≡ settled (shown m) → r ≡ soundMachine m
   unfolding soundMachine stored sound
   settled-last n a b r counted same fits clear shapely a-held at b-held e =

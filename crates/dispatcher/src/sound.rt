@@ -13,7 +13,7 @@ ghost use Rattle.rules.specs.Walk.{verdict};
 ghost use Rattle.rules.specs.Order.{standsAbove};
 ghost use Rattle.dispatcher.specs.Choosing.{verdictOf};
 ghost use Rattle.dispatcher.specs.Parts.{Counts, placeTest, partsOf, plainOf, runsOn};
-ghost use Rattle.rules.specs.declared.Running.the-variants.{Nothing as Idling};
+ghost use Rattle.rules.specs.declared.Running.the-variants.{Nothing};
 ghost use Rattle.dispatcher.specs.Shown.{freeTimeslice, sliceOf, placeOf, soundMachine};
 use crate::Machine;
 use crate::choice::Verdict;
@@ -57,6 +57,7 @@ pub fn timeslice_at(timeslices: [Timeslice; 128], t: u8) -> Timeslice
     Timeslice::FREE
 }
 
+// Tests joined.
 pub fn both(a: bool, b: bool) -> bool
     ensures { λ r. ⌜ r ≡ (a && b) ⌝ }
 {
@@ -93,6 +94,7 @@ pub fn implies(a: bool, b: bool) -> bool
     true
 }
 
+// What a record holds.
 pub fn is_server(role: Role) -> bool
     ensures { λ r. ⌜ r ≡ isServer role ⌝ }
 {
@@ -160,6 +162,181 @@ pub fn is_serving(n: u8, service: Service) -> bool
     }
 }
 
+// L, the number of live threads, counted.
+pub fn one_more_if(live: bool, count: u8) -> u8
+    requires { ⌜ count ≤ 128 ⌝ }
+    ensures { λ r. ⌜ r ≡ oneMoreIf live count ⌝ }
+{
+    if live {
+        return count + 1;
+    }
+    count
+}
+
+pub fn count_live(threads: [Thread; 128]) -> u8
+    ensures { λ r. ⌜ r ≡ liveThreads threads ⌝ }
+{
+    let mut count: u8 = 0;
+    let mut i: usize = 0;
+    while i < 128 {
+        let t = threads[i];
+        count = one_more_if(t.live, count);
+        i += 1;
+    }
+    count
+}
+
+// Free entries of the turn order hold 0.
+pub fn entry_free(i: u8, live: u8, entry: u8) -> bool
+    ensures { λ r. ⌜ r ≡ (ltb i live || eqb entry 0) ⌝ }
+{
+    if i < live {
+        return true;
+    }
+    entry == 0
+}
+
+pub fn entries_free(order: [u8; 128], live: u8) -> bool
+    ensures { λ r. ⌜ r ≡ below limit (λ i. ltb i live || eqb (getD order i 0) 0) ⌝ }
+{
+    let mut i: u8 = 0;
+    while i < 128 {
+        let k = index(i);
+        let entry = order[k];
+        if entry_free(i, live, entry) {
+            i += 1;
+        } else {
+            return false;
+        }
+    }
+    true
+}
+
+// "Turn order holds exactly the live timeslices, once each."
+pub fn numbers_fit(order: [u8; 128], live: u8) -> bool
+    requires { ⌜ live ≤ 128 ⌝ }
+    ensures { λ r. ⌜ r ≡ all (λ t. ltb t limit) (take live order) ⌝ }
+{
+    let n = index(live);
+    let mut i: usize = 0;
+    while i < n {
+        let t = order[i];
+        if t < 128 {
+            i += 1;
+        } else {
+            return false;
+        }
+    }
+    true
+}
+
+// The turn order lists t at this entry or later.
+pub fn stands_later(order: [u8; 128], live: u8, from: usize, t: u8) -> bool
+    requires { ⌜ live ≤ 128 ⌝ }
+    requires { ⌜ from ≤ live ⌝ }
+    ensures { λ r. ⌜ r ≡ memberOf t (drop from (take live order)) ⌝ }
+{
+    let n = index(live);
+    let mut i = from;
+    while i < n {
+        let u = order[i];
+        if t == u {
+            return true;
+        }
+        i += 1;
+    }
+    false
+}
+
+pub fn listed_once(order: [u8; 128], live: u8) -> bool
+    requires { ⌜ live ≤ 128 ⌝ }
+    ensures { λ r. ⌜ r ≡ distinct (take live order) ⌝ }
+{
+    let n = index(live);
+    let mut i: usize = 0;
+    while i < n {
+        let t = order[i];
+        i += 1;
+        if stands_later(order, live, i, t) {
+            return false;
+        }
+    }
+    true
+}
+
+pub fn turns_once(order: [u8; 128], live: u8) -> bool
+    requires { ⌜ live ≤ 128 ⌝ }
+    ensures { λ r. ⌜ r ≡ (all (λ t. ltb t limit) (take live order) && distinct (take live order)) ⌝ }
+{
+    let fit = numbers_fit(order, live);
+    let once = listed_once(order, live);
+    both(fit, once)
+}
+
+// "Owners are live and distinct."
+pub fn owner_live(threads: [Thread; 128], timeslices: [Timeslice; 128], t: u8) -> bool
+    ensures { λ r. ⌜ r ≡ liveAt threads (ownerAt (map sliceOf timeslices) t) ⌝ }
+{
+    let x = timeslice_at(timeslices, t);
+    let owner = thread_at(threads, x.owner);
+    owner.live
+}
+
+pub fn owners_live(
+    threads: [Thread; 128],
+    timeslices: [Timeslice; 128],
+    order: [u8; 128],
+    live: u8,
+) -> bool
+    requires { ⌜ live ≤ 128 ⌝ }
+    ensures { λ r. ⌜ r ≡ all (λ t. liveAt threads (ownerAt (map sliceOf timeslices) t)) (take live order) ⌝ }
+{
+    let n = index(live);
+    let mut i: usize = 0;
+    while i < n {
+        let t = order[i];
+        if owner_live(threads, timeslices, t) {
+            i += 1;
+        } else {
+            return false;
+        }
+    }
+    true
+}
+
+// The owners in turn order.
+pub fn owners(timeslices: [Timeslice; 128], order: [u8; 128], live: u8) -> [u8; 128]
+    requires { ⌜ live ≤ 128 ⌝ }
+    ensures { λ r. ⌜ take live r ≡ map (λ t. ownerAt (map sliceOf timeslices) t) (take live order) ⌝ }
+{
+    let mut found: [u8; 128] = [0; 128];
+    let n = index(live);
+    let mut i: usize = 0;
+    while i < n {
+        let t = order[i];
+        let x = timeslice_at(timeslices, t);
+        let owner = x.owner;
+        found[i] = owner;
+        i += 1;
+    }
+    found
+}
+
+pub fn owners_good(
+    threads: [Thread; 128],
+    timeslices: [Timeslice; 128],
+    order: [u8; 128],
+    live: u8,
+) -> bool
+    requires { ⌜ live ≤ 128 ⌝ }
+    ensures { λ r. ⌜ r ≡ ownersLive (plainOf threads timeslices (take live order)) ⌝ }
+{
+    let all_live = owners_live(threads, timeslices, order, live);
+    let listed = owners(timeslices, order, live);
+    let once = listed_once(listed, live);
+    both(all_live, once)
+}
+
 // "Ranges hold": priority and quantum do by their types.
 pub fn in_range(x: Timeslice) -> bool
     ensures { λ r. ⌜ r ≡ inRange (sliceOf x) ⌝ }
@@ -168,6 +345,24 @@ pub fn in_range(x: Timeslice) -> bool
         return false;
     }
     x.left <= x.quantum
+}
+
+pub fn ranges_hold(timeslices: [Timeslice; 128], order: [u8; 128], live: u8) -> bool
+    requires { ⌜ live ≤ 128 ⌝ }
+    ensures { λ r. ⌜ r ≡ all (λ t. inRange (sliceAt (map sliceOf timeslices) t)) (take live order) ⌝ }
+{
+    let n = index(live);
+    let mut i: usize = 0;
+    while i < n {
+        let t = order[i];
+        let x = timeslice_at(timeslices, t);
+        if in_range(x) {
+            i += 1;
+        } else {
+            return false;
+        }
+    }
+    true
 }
 
 // "A thread is Calling a server exactly when that server serves it."
@@ -211,6 +406,22 @@ pub fn call_good(threads: [Thread; 128], n: u8, t: Thread) -> bool
     both(served, calling)
 }
 
+pub fn calls_served(threads: [Thread; 128]) -> bool
+    ensures { λ r. ⌜ r ≡ below limit (λ n. callIsServed threads n (holdAt threads n) && servedIsCalling threads n (serviceAt threads n)) ⌝ }
+{
+    let mut n: u8 = 0;
+    while n < 128 {
+        let k = index(n);
+        let t = threads[k];
+        if call_good(threads, n, t) {
+            n += 1;
+        } else {
+            return false;
+        }
+    }
+    true
+}
+
 // "Links go to live servers, never to oneself."
 pub fn link_to(threads: [Thread; 128], n: u8, s: u8) -> bool
     ensures { λ r. ⌜ r ≡ linkTo threads n s ⌝ }
@@ -233,6 +444,23 @@ pub fn link_good(threads: [Thread; 128], n: u8, hold: Hold) -> bool
     }
 }
 
+pub fn links_good(threads: [Thread; 128]) -> bool
+    ensures { λ r. ⌜ r ≡ below limit (λ n. linkGood threads n (holdAt threads n)) ⌝ }
+{
+    let mut n: u8 = 0;
+    while n < 128 {
+        let k = index(n);
+        let t = threads[k];
+        let hold = t.hold;
+        if link_good(threads, n, hold) {
+            n += 1;
+        } else {
+            return false;
+        }
+    }
+    true
+}
+
 // "Idle holds exactly for servers with service none; clients serve nobody."
 pub fn idle_good(t: Thread) -> bool
     ensures { λ r. ⌜ r ≡ idleGood t ⌝ }
@@ -247,6 +475,22 @@ pub fn idle_good(t: Thread) -> bool
     let exact = agree(idle, free_server);
     let client = implies(!server, nobody);
     both(exact, client)
+}
+
+pub fn idles_good(threads: [Thread; 128]) -> bool
+    ensures { λ r. ⌜ r ≡ below limit (λ n. idleGood (threadAt threads n)) ⌝ }
+{
+    let mut n: u8 = 0;
+    while n < 128 {
+        let k = index(n);
+        let t = threads[k];
+        if idle_good(t) {
+            n += 1;
+        } else {
+            return false;
+        }
+    }
+    true
 }
 
 // "Free slots hold one fixed value."
@@ -270,6 +514,22 @@ pub fn live_or_free(t: Thread) -> bool
     either(t.live, free)
 }
 
+pub fn free_threads(threads: [Thread; 128]) -> bool
+    ensures { λ r. ⌜ r ≡ below limit (λ n. liveAt threads n || threadFree (threadAt threads n)) ⌝ }
+{
+    let mut n: u8 = 0;
+    while n < 128 {
+        let k = index(n);
+        let t = threads[k];
+        if live_or_free(t) {
+            n += 1;
+        } else {
+            return false;
+        }
+    }
+    true
+}
+
 pub fn slice_free(x: Timeslice) -> bool
     ensures { λ r. ⌜ r ≡ sliceFree (sliceOf x) ⌝ }
 {
@@ -285,15 +545,6 @@ pub fn slice_free(x: Timeslice) -> bool
     x.left == 0
 }
 
-pub fn entry_free(i: u8, live: u8, entry: u8) -> bool
-    ensures { λ r. ⌜ r ≡ (ltb i live || eqb entry 0) ⌝ }
-{
-    if i < live {
-        return true;
-    }
-    entry == 0
-}
-
 pub fn listed_or_free(x: Timeslice, order: [u8; 128], live: u8, t: u8) -> bool
     requires { ⌜ live ≤ 128 ⌝ }
     ensures { λ r. ⌜ r ≡ (memberOf t (take live order) || sliceFree (sliceOf x)) ⌝ }
@@ -301,240 +552,6 @@ pub fn listed_or_free(x: Timeslice, order: [u8; 128], live: u8, t: u8) -> bool
     let free = slice_free(x);
     let listed = member(order, live, t);
     either(listed, free)
-}
-
-pub fn listed_or_queued(x: Timeslice, order: [u8; 128], live: u8, t: u8) -> bool
-    requires { ⌜ live ≤ 128 ⌝ }
-    ensures { λ r. ⌜ r ≡ (memberOf t (take live order) || inQueue (x .place)) ⌝ }
-{
-    let place = x.place;
-    let queued = in_set(place, Place::Queue);
-    let listed = member(order, live, t);
-    either(listed, queued)
-}
-
-// L, counted.
-pub fn one_more_if(live: bool, count: u8) -> u8
-    requires { ⌜ count ≤ 128 ⌝ }
-    ensures { λ r. ⌜ r ≡ oneMoreIf live count ⌝ }
-{
-    if live {
-        return count + 1;
-    }
-    count
-}
-
-pub fn count_live(threads: [Thread; 128]) -> u8
-    ensures { λ r. ⌜ r ≡ liveThreads threads ⌝ }
-{
-    let mut count: u8 = 0;
-    let mut i: usize = 0;
-    while i < 128 {
-        let t = threads[i];
-        count = one_more_if(t.live, count);
-        i += 1;
-    }
-    count
-}
-
-// Free entries of the turn order hold 0.
-pub fn entries_free(order: [u8; 128], live: u8) -> bool
-    ensures { λ r. ⌜ r ≡ below limit (λ i. ltb i live || eqb (getD order i 0) 0) ⌝ }
-{
-    let mut i: u8 = 0;
-    while i < 128 {
-        let k = index(i);
-        let entry = order[k];
-        if entry_free(i, live, entry) {
-            i += 1;
-        } else {
-            return false;
-        }
-    }
-    true
-}
-
-// The entries from this one on hold t.
-pub fn stands_later(order: [u8; 128], live: u8, from: usize, t: u8) -> bool
-    requires { ⌜ live ≤ 128 ⌝ }
-    requires { ⌜ from ≤ live ⌝ }
-    ensures { λ r. ⌜ r ≡ memberOf t (drop from (take live order)) ⌝ }
-{
-    let n = index(live);
-    let mut i = from;
-    while i < n {
-        let u = order[i];
-        if t == u {
-            return true;
-        }
-        i += 1;
-    }
-    false
-}
-
-// "Once each."
-pub fn listed_once(order: [u8; 128], live: u8) -> bool
-    requires { ⌜ live ≤ 128 ⌝ }
-    ensures { λ r. ⌜ r ≡ distinct (take live order) ⌝ }
-{
-    let n = index(live);
-    let mut i: usize = 0;
-    while i < n {
-        let t = order[i];
-        i += 1;
-        if stands_later(order, live, i, t) {
-            return false;
-        }
-    }
-    true
-}
-
-pub fn numbers_fit(order: [u8; 128], live: u8) -> bool
-    requires { ⌜ live ≤ 128 ⌝ }
-    ensures { λ r. ⌜ r ≡ all (λ t. ltb t limit) (take live order) ⌝ }
-{
-    let n = index(live);
-    let mut i: usize = 0;
-    while i < n {
-        let t = order[i];
-        if t < 128 {
-            i += 1;
-        } else {
-            return false;
-        }
-    }
-    true
-}
-
-// "Owners are live and distinct."
-pub fn owner_live(threads: [Thread; 128], timeslices: [Timeslice; 128], t: u8) -> bool
-    ensures { λ r. ⌜ r ≡ liveAt threads (ownerAt (map sliceOf timeslices) t) ⌝ }
-{
-    let x = timeslice_at(timeslices, t);
-    let owner = thread_at(threads, x.owner);
-    owner.live
-}
-
-pub fn owners_live(
-    threads: [Thread; 128],
-    timeslices: [Timeslice; 128],
-    order: [u8; 128],
-    live: u8,
-) -> bool
-    requires { ⌜ live ≤ 128 ⌝ }
-    ensures { λ r. ⌜ r ≡ all (λ t. liveAt threads (ownerAt (map sliceOf timeslices) t)) (take live order) ⌝ }
-{
-    let n = index(live);
-    let mut i: usize = 0;
-    while i < n {
-        let t = order[i];
-        if owner_live(threads, timeslices, t) {
-            i += 1;
-        } else {
-            return false;
-        }
-    }
-    true
-}
-
-pub fn owners(timeslices: [Timeslice; 128], order: [u8; 128], live: u8) -> [u8; 128]
-    requires { ⌜ live ≤ 128 ⌝ }
-    ensures { λ r. ⌜ take live r ≡ map (λ t. ownerAt (map sliceOf timeslices) t) (take live order) ⌝ }
-{
-    let mut found: [u8; 128] = [0; 128];
-    let n = index(live);
-    let mut i: usize = 0;
-    while i < n {
-        let t = order[i];
-        let x = timeslice_at(timeslices, t);
-        let owner = x.owner;
-        found[i] = owner;
-        i += 1;
-    }
-    found
-}
-
-pub fn ranges_hold(timeslices: [Timeslice; 128], order: [u8; 128], live: u8) -> bool
-    requires { ⌜ live ≤ 128 ⌝ }
-    ensures { λ r. ⌜ r ≡ all (λ t. inRange (sliceAt (map sliceOf timeslices) t)) (take live order) ⌝ }
-{
-    let n = index(live);
-    let mut i: usize = 0;
-    while i < n {
-        let t = order[i];
-        let x = timeslice_at(timeslices, t);
-        if in_range(x) {
-            i += 1;
-        } else {
-            return false;
-        }
-    }
-    true
-}
-
-pub fn calls_served(threads: [Thread; 128]) -> bool
-    ensures { λ r. ⌜ r ≡ below limit (λ n. callIsServed threads n (holdAt threads n) && servedIsCalling threads n (serviceAt threads n)) ⌝ }
-{
-    let mut n: u8 = 0;
-    while n < 128 {
-        let k = index(n);
-        let t = threads[k];
-        if call_good(threads, n, t) {
-            n += 1;
-        } else {
-            return false;
-        }
-    }
-    true
-}
-
-pub fn links_good(threads: [Thread; 128]) -> bool
-    ensures { λ r. ⌜ r ≡ below limit (λ n. linkGood threads n (holdAt threads n)) ⌝ }
-{
-    let mut n: u8 = 0;
-    while n < 128 {
-        let k = index(n);
-        let t = threads[k];
-        let hold = t.hold;
-        if link_good(threads, n, hold) {
-            n += 1;
-        } else {
-            return false;
-        }
-    }
-    true
-}
-
-pub fn idles_good(threads: [Thread; 128]) -> bool
-    ensures { λ r. ⌜ r ≡ below limit (λ n. idleGood (threadAt threads n)) ⌝ }
-{
-    let mut n: u8 = 0;
-    while n < 128 {
-        let k = index(n);
-        let t = threads[k];
-        if idle_good(t) {
-            n += 1;
-        } else {
-            return false;
-        }
-    }
-    true
-}
-
-pub fn free_threads(threads: [Thread; 128]) -> bool
-    ensures { λ r. ⌜ r ≡ below limit (λ n. liveAt threads n || threadFree (threadAt threads n)) ⌝ }
-{
-    let mut n: u8 = 0;
-    while n < 128 {
-        let k = index(n);
-        let t = threads[k];
-        if live_or_free(t) {
-            n += 1;
-        } else {
-            return false;
-        }
-    }
-    true
 }
 
 pub fn free_timeslices(timeslices: [Timeslice; 128], order: [u8; 128], live: u8) -> bool
@@ -554,21 +571,49 @@ pub fn free_timeslices(timeslices: [Timeslice; 128], order: [u8; 128], live: u8)
     true
 }
 
-pub fn free_places(timeslices: [Timeslice; 128], order: [u8; 128], live: u8) -> bool
+pub fn free_slots(
+    threads: [Thread; 128],
+    timeslices: [Timeslice; 128],
+    order: [u8; 128],
+    live: u8,
+) -> bool
     requires { ⌜ live ≤ 128 ⌝ }
-    ensures { λ r. ⌜ r ≡ below limit (λ t. memberOf t (take live order) || inQueue (placeAt (map placeOf timeslices) t)) ⌝ }
+    ensures { λ r. ⌜ r ≡ freeSlots (plainOf threads timeslices (take live order)) ⌝ }
 {
-    let mut t: u8 = 0;
-    while t < 128 {
-        let k = index(t);
-        let x = timeslices[k];
-        if listed_or_queued(x, order, live, t) {
-            t += 1;
-        } else {
-            return false;
-        }
+    let free = free_threads(threads);
+    let unlisted = free_timeslices(timeslices, order, live);
+    both(free, unlisted)
+}
+
+// What soundness says of a machine without its places. The tables are full by their types.
+pub fn is_shaped(
+    threads: [Thread; 128],
+    timeslices: [Timeslice; 128],
+    order: [u8; 128],
+    live: u8,
+) -> bool
+    requires { ⌜ live ≤ 128 ⌝ }
+    ensures { λ r. ⌜ r ≡ shaped (plainOf threads timeslices (take live order)) ⌝ }
+{
+    if !turns_once(order, live) {
+        return false;
     }
-    true
+    if !owners_good(threads, timeslices, order, live) {
+        return false;
+    }
+    if !ranges_hold(timeslices, order, live) {
+        return false;
+    }
+    if !calls_served(threads) {
+        return false;
+    }
+    if !links_good(threads) {
+        return false;
+    }
+    if !idles_good(threads) {
+        return false;
+    }
+    free_slots(threads, timeslices, order, live)
 }
 
 // What the end of a chain says.
@@ -671,6 +716,51 @@ pub fn places_good(
     true
 }
 
+// Free slots hold the place Queue.
+pub fn listed_or_queued(x: Timeslice, order: [u8; 128], live: u8, t: u8) -> bool
+    requires { ⌜ live ≤ 128 ⌝ }
+    ensures { λ r. ⌜ r ≡ (memberOf t (take live order) || inQueue (x .place)) ⌝ }
+{
+    let place = x.place;
+    let queued = in_set(place, Place::Queue);
+    let listed = member(order, live, t);
+    either(listed, queued)
+}
+
+pub fn free_places(timeslices: [Timeslice; 128], order: [u8; 128], live: u8) -> bool
+    requires { ⌜ live ≤ 128 ⌝ }
+    ensures { λ r. ⌜ r ≡ below limit (λ t. memberOf t (take live order) || inQueue (placeAt (map placeOf timeslices) t)) ⌝ }
+{
+    let mut t: u8 = 0;
+    while t < 128 {
+        let k = index(t);
+        let x = timeslices[k];
+        if listed_or_queued(x, order, live, t) {
+            t += 1;
+        } else {
+            return false;
+        }
+    }
+    true
+}
+
+// Every timeslice has a true place.
+pub fn is_placed(
+    threads: [Thread; 128],
+    timeslices: [Timeslice; 128],
+    order: [u8; 128],
+    live_threads: u8,
+    live: u8,
+) -> bool
+    requires { ⌜ Counts threads «live_threads» live ⌝ }
+    ensures { λ r. ⌜ r ≡ placed (partsOf threads timeslices (take live order) Nothing) ⌝ }
+{
+    if !places_good(threads, timeslices, order, live_threads, live) {
+        return false;
+    }
+    free_places(timeslices, order, live)
+}
+
 // "Its walk ends, Ready, at the running thread, with the stored count."
 pub fn runs_as(n: u8, count: u8, chain: Chain, said: Verdict) -> bool
     ensures { λ r. ⌜ r ≡ runsAs n count chain (verdictOf said) ⌝ }
@@ -688,7 +778,7 @@ pub fn runs_as(n: u8, count: u8, chain: Chain, said: Verdict) -> bool
     }
 }
 
-// Nothing runs, or this timeslice, the topmost in Queue, is the current one.
+// "Nothing runs exactly when Queue is empty. Otherwise the current is the topmost in Queue."
 pub fn nothing_runs(running: Running) -> bool
     ensures { λ r. ⌜ r ≡ nothingRuns running ⌝ }
 {
@@ -746,90 +836,6 @@ pub fn is_settled(
         Found::Nothing => nothing_runs(running),
         Found::At(q) => runs_on(threads, timeslices, live_threads, q, running),
     }
-}
-
-pub fn is_placed(
-    threads: [Thread; 128],
-    timeslices: [Timeslice; 128],
-    order: [u8; 128],
-    live_threads: u8,
-    live: u8,
-) -> bool
-    requires { ⌜ Counts threads «live_threads» live ⌝ }
-    ensures { λ r. ⌜ r ≡ placed (partsOf threads timeslices (take live order) Idling) ⌝ }
-{
-    if !places_good(threads, timeslices, order, live_threads, live) {
-        return false;
-    }
-    free_places(timeslices, order, live)
-}
-
-pub fn turns_once(order: [u8; 128], live: u8) -> bool
-    requires { ⌜ live ≤ 128 ⌝ }
-    ensures { λ r. ⌜ r ≡ (all (λ t. ltb t limit) (take live order) && distinct (take live order)) ⌝ }
-{
-    let fit = numbers_fit(order, live);
-    let once = listed_once(order, live);
-    both(fit, once)
-}
-
-pub fn owners_good(
-    threads: [Thread; 128],
-    timeslices: [Timeslice; 128],
-    order: [u8; 128],
-    live: u8,
-) -> bool
-    requires { ⌜ live ≤ 128 ⌝ }
-    ensures { λ r. ⌜ r ≡ ownersLive (plainOf threads timeslices (take live order)) ⌝ }
-{
-    let all_live = owners_live(threads, timeslices, order, live);
-    let listed = owners(timeslices, order, live);
-    let once = listed_once(listed, live);
-    both(all_live, once)
-}
-
-pub fn free_slots(
-    threads: [Thread; 128],
-    timeslices: [Timeslice; 128],
-    order: [u8; 128],
-    live: u8,
-) -> bool
-    requires { ⌜ live ≤ 128 ⌝ }
-    ensures { λ r. ⌜ r ≡ freeSlots (plainOf threads timeslices (take live order)) ⌝ }
-{
-    let free = free_threads(threads);
-    let unlisted = free_timeslices(timeslices, order, live);
-    both(free, unlisted)
-}
-
-pub fn is_shaped(
-    threads: [Thread; 128],
-    timeslices: [Timeslice; 128],
-    order: [u8; 128],
-    live: u8,
-) -> bool
-    requires { ⌜ live ≤ 128 ⌝ }
-    ensures { λ r. ⌜ r ≡ shaped (plainOf threads timeslices (take live order)) ⌝ }
-{
-    if !turns_once(order, live) {
-        return false;
-    }
-    if !owners_good(threads, timeslices, order, live) {
-        return false;
-    }
-    if !ranges_hold(timeslices, order, live) {
-        return false;
-    }
-    if !calls_served(threads) {
-        return false;
-    }
-    if !links_good(threads) {
-        return false;
-    }
-    if !idles_good(threads) {
-        return false;
-    }
-    free_slots(threads, timeslices, order, live)
 }
 
 impl Machine {

@@ -36,7 +36,13 @@ is-settled-requires : tie.Need-is-settled-requires
 is-settled-requires c κs = record { counted = c .before .before .before .before .before .before .before .if1 .left ∙ c .before .before .before .before .before .before .before .before .count-live .ensures; fits = c .before .before .before .before .before .before .if2 .left }
 
 returns-6 : tie.Need-returns-6
-returns-6 c = settled-last (c .before .before .before .before .before .before .before .before .before .before .before .before .before .args .self) _ _ _ _ (c .before .before .before .before .before .before .before .before .before .count-live .ensures) (c .before .before .before .before .before .before .before .before .if1 .left) (c .before .before .before .before .before .before .before .if2 .left) (sym (c .before .before .before .before .before .before .entries-free .ensures) ∙ not-false _ (c .before .before .before .before .before .if3 .left)) (c .before .before .before .before .is-shaped .ensures) (not-false _ (c .before .before .before .if4 .left)) (c .before .before .is-placed .ensures) (not-false _ (c .before .if5 .left)) (c .is-settled .ensures)
+returns-6 c =
+    let m = c .before .before .before .before .before .before .before .before .before .before .before .before .before .args .self in
+    let clear = sym (c .before .before .before .before .before .before .entries-free .ensures) ∙ not-false _ (c .before .before .before .before .before .if3 .left) in
+    let shapely = not-false _ (c .before .before .before .if4 .left) in
+    let at = not-false _ (c .before .if5 .left) in
+    settled-last m _ _ _ _ (c .before .before .before .before .before .before .before .before .before .count-live .ensures) (c .before .before .before .before .before .before .before .before .if1 .left) (c .before .before .before .before .before .before .before .if2 .left) clear
+    (c .before .before .before .before .is-shaped .ensures) shapely (c .before .before .is-placed .ensures) at (c .is-settled .ensures)
 
 pub is-sound-spec : {M : Type 1} → statement M
 is-sound-spec =

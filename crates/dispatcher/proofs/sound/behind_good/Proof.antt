@@ -24,7 +24,11 @@ both-requires-2 : tie.Need-both-requires-2
 both-requires-2 c κs = search needs
 
 returns : tie.Need-returns
-returns c = let s = c .before .before .before .before .before .before in both-test _ _ _ _ _ (c .both2 .ensures) (both-test _ _ _ _ _ (c .before .before .both .ensures) (c .before .before .before .before .member .ensures) (c .before .before .before .in-set .ensures ∙ place-test inQueue (s .args .timeslices) _ _ (c .before .before .before .before .before .timeslice-at .ensures))) (c .before .stands-above .ensures)
+returns c =
+    let s = c .before .before .before .before .before .before in
+    let queued = c .before .before .before .in-set .ensures ∙ place-test inQueue (s .args .timeslices) _ _ (c .before .before .before .before .before .timeslice-at .ensures) in
+    let first = both-test _ _ _ _ _ (c .before .before .both .ensures) (c .before .before .before .before .member .ensures) queued in
+    both-test _ _ _ _ _ (c .both2 .ensures) first (c .before .stands-above .ensures)
 
 pub behind-good-spec : {M : Type 1} → statement M
 behind-good-spec =

@@ -34,10 +34,18 @@ loop-less : tie.Need-loop-less Inv-loop μ-loop
 loop-less c = omega arith
 
 loop-again : tie.Need-loop-again Inv-loop μ-loop
-loop-again c = let s = c .before .before .before .before .before in one-more _ _ _ (c .before .before .before .before .loop .inv) (c .before .before .before .loop-test .taken) (c .before .entry-free .ensures ∙ ap (λ (j : ℕ). ltb (c .before .before .before .before .loop .i) (s .args .live) || eqb (getD (s .args .t1) j 0) 0) (c .before .before .index .ensures)) (c .if1 .taken)
+loop-again c =
+    let s = c .before .before .before .before .before in
+    let i = c .before .before .before .before .loop .i in
+    let test = c .before .entry-free .ensures ∙ ap (λ (j : ℕ). ltb i (s .args .live) || eqb (getD (s .args .t1) j 0) 0) (c .before .before .index .ensures) in
+    one-more _ _ _ (c .before .before .before .before .loop .inv) (c .before .before .before .loop-test .taken) test (c .if1 .taken)
 
 returns : tie.Need-returns Inv-loop μ-loop
-returns c = let s = c .before .before .before .before .before in one-fails _ _ _ (c .before .before .before .loop-test .taken) (c .before .entry-free .ensures ∙ ap (λ (j : ℕ). ltb (c .before .before .before .before .loop .i) (s .args .live) || eqb (getD (s .args .t1) j 0) 0) (c .before .before .index .ensures)) (c .if1 .left)
+returns c =
+    let s = c .before .before .before .before .before in
+    let i = c .before .before .before .before .loop .i in
+    let test = c .before .entry-free .ensures ∙ ap (λ (j : ℕ). ltb i (s .args .live) || eqb (getD (s .args .t1) j 0) 0) (c .before .before .index .ensures) in
+    one-fails _ _ _ (c .before .before .before .loop-test .taken) test (c .if1 .left)
 
 returns-2 : tie.Need-returns-2 Inv-loop μ-loop
 returns-2 c = passed-all _ _ (c .before .loop .inv) (c .loop-test .left)

@@ -37,14 +37,14 @@ loop-less : tie.Need-loop-less Inv-loop μ-loop
 loop-less c = omega arith
 
 loop-again : tie.Need-loop-again Inv-loop μ-loop
-loop-again c = 
+loop-again c =
     let s = c .before .before .before .before .before .before in
     let index = c .before .before .before .index .ensures in
     let test = c .before .live-or-free .ensures ∙ ap (λ (i : ℕ). liveAt (s .args .t1) i || threadFree (threadAt (s .args .t1) i)) index in
     one-more _ _ _ (c .before .before .before .before .before .loop .inv) (c .before .before .before .before .loop-test .taken) test (c .if1 .taken)
 
 returns : tie.Need-returns Inv-loop μ-loop
-returns c = 
+returns c =
     let s = c .before .before .before .before .before .before in
     let index = c .before .before .before .index .ensures in
     let test = c .before .live-or-free .ensures ∙ ap (λ (i : ℕ). liveAt (s .args .t1) i || threadFree (threadAt (s .args .t1) i)) index in

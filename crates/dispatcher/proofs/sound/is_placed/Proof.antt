@@ -13,13 +13,20 @@ places-good-requires : tie.Need-places-good-requires
 places-good-requires c κs = search needs
 
 returns : tie.Need-returns
-returns c = let s = c .before .before in placed-not (partsOf (s .args .threads) (s .args .timeslices) (take (s .args .live) (s .args .order)) Nothing) (sym (c .before .places-good .ensures) ∙ not-true _ (c .if1 .taken))
+returns c =
+    let s = c .before .before in
+    let state = partsOf (s .args .threads) (s .args .timeslices) (take (s .args .live) (s .args .order)) Nothing in
+    placed-not state (sym (c .before .places-good .ensures) ∙ not-true _ (c .if1 .taken))
 
 free-places-requires : tie.Need-free-places-requires
 free-places-requires c κs = c .before .before .pre .fits
 
 returns-2 : tie.Need-returns-2
-returns-2 c = let s = c .before .before .before in placed-last (partsOf (s .args .threads) (s .args .timeslices) (take (s .args .live) (s .args .order)) Nothing) _ (length-map (s .args .timeslices) placeOf ∙ s .good .1 .0 .1 .0 .1) (sym (c .before .before .places-good .ensures) ∙ not-false _ (c .before .if1 .left)) (c .free-places .ensures)
+returns-2 c =
+    let s = c .before .before .before in
+    let state = partsOf (s .args .threads) (s .args .timeslices) (take (s .args .live) (s .args .order)) Nothing in
+    let full = length-map (s .args .timeslices) placeOf ∙ s .good .1 .0 .1 .0 .1 in
+    placed-last state _ full (sym (c .before .before .places-good .ensures) ∙ not-false _ (c .before .if1 .left)) (c .free-places .ensures)
 
 pub is-placed-spec : {M : Type 1} → statement M
 is-placed-spec = tie.close (tie.spec places-good-requires returns free-places-requires returns-2)

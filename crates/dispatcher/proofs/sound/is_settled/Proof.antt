@@ -20,10 +20,16 @@ runs-on-requires : tie.Need-runs-on-requires
 runs-on-requires c κs = c .before .before .before .before .pre .counted
 
 returns : tie.Need-returns
-returns c = let s = c .before .before .before .before in settled-none (partsOf (s .args .threads) (s .args .timeslices) _ (s .args .running)) _ (c .before .before .before .topmost .ensures) _ (c .before .enum-told .given .1) (c .nothing-runs .ensures)
+returns c =
+    let s = c .before .before .before .before in
+    let state = partsOf (s .args .threads) (s .args .timeslices) _ (s .args .running) in
+    settled-none state _ (c .before .before .before .topmost .ensures) _ (c .before .enum-told .given .1) (c .nothing-runs .ensures)
 
 returns-2 : tie.Need-returns-2
-returns-2 c = let s = c .before .before .before .before .before in settled-some (partsOf (s .args .threads) (s .args .timeslices) _ (s .args .running)) _ (c .before .before .before .before .topmost .ensures) _ _ (c .before .before .top .given .1) (c .runs-on .ensures)
+returns-2 c =
+    let s = c .before .before .before .before .before in
+    let state = partsOf (s .args .threads) (s .args .timeslices) _ (s .args .running) in
+    settled-some state _ (c .before .before .before .before .topmost .ensures) _ _ (c .before .before .top .given .1) (c .runs-on .ensures)
 
 pub is-settled-spec : {M : Type 1} → statement M
 is-settled-spec =

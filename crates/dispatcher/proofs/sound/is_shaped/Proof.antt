@@ -48,7 +48,20 @@ free-slots-requires : tie.Need-free-slots-requires
 free-slots-requires c κs = search needs
 
 returns-7 : tie.Need-returns-7
-returns-7 c = let s = c .before .before .before .before .before .before .before .before .before .before .before .before .before in shaped-last (plainOf (s .args .threads) (s .args .timeslices) (take (s .args .live) (s .args .order))) _ (tables-full (s .args .threads) (s .args .timeslices) (take (s .args .live) (s .args .order)) (s .good .0 .1 .0 .1) (s .good .1 .0 .1 .0 .1)) (record { turns = sym (c .before .before .before .before .before .before .before .before .before .before .before .before .turns-once .ensures) ∙ not-false _ (c .before .before .before .before .before .before .before .before .before .before .before .if1 .left); owners = sym (c .before .before .before .before .before .before .before .before .before .before .owners-good .ensures) ∙ not-false _ (c .before .before .before .before .before .before .before .before .before .if2 .left); ranges = sym (c .before .before .before .before .before .before .before .before .ranges-hold .ensures) ∙ not-false _ (c .before .before .before .before .before .before .before .if3 .left); calls = sym (c .before .before .before .before .before .before .calls-served .ensures) ∙ not-false _ (c .before .before .before .before .before .if4 .left); links = sym (c .before .before .before .before .links-good .ensures) ∙ not-false _ (c .before .before .before .if5 .left); idles = sym (c .before .before .idles-good .ensures) ∙ not-false _ (c .before .if6 .left) }) (c .free-slots .ensures)
+returns-7 c =
+    let s = c .before .before .before .before .before .before .before .before .before .before .before .before .before in
+    let turns = take (s .args .live) (s .args .order) in
+    let full = tables-full (s .args .threads) (s .args .timeslices) turns (s .good .0 .1 .0 .1) (s .good .1 .0 .1 .0 .1) in
+    shaped-last (plainOf (s .args .threads) (s .args .timeslices) turns) _ full
+    (record {
+      turns = sym (c .before .before .before .before .before .before .before .before .before .before .before .before .turns-once .ensures) ∙ not-false _ (c .before .before .before .before .before .before .before .before .before .before .before .if1 .left);
+      owners = sym (c .before .before .before .before .before .before .before .before .before .before .owners-good .ensures) ∙ not-false _ (c .before .before .before .before .before .before .before .before .before .if2 .left);
+      ranges = sym (c .before .before .before .before .before .before .before .before .ranges-hold .ensures) ∙ not-false _ (c .before .before .before .before .before .before .before .if3 .left);
+      calls = sym (c .before .before .before .before .before .before .calls-served .ensures) ∙ not-false _ (c .before .before .before .before .before .if4 .left);
+      links = sym (c .before .before .before .before .links-good .ensures) ∙ not-false _ (c .before .before .before .if5 .left);
+      idles = sym (c .before .before .idles-good .ensures) ∙ not-false _ (c .before .if6 .left);
+    })
+    (c .free-slots .ensures)
 
 pub is-shaped-spec : {M : Type 1} → statement M
 is-shaped-spec =

@@ -36,7 +36,7 @@ loop-less : tie.Need-loop-less Inv-loop μ-loop
 loop-less c = omega arith
 
 loop-again : tie.Need-loop-again Inv-loop μ-loop
-loop-again c = 
+loop-again c =
     let s = c .before .before .before .before .before .before in
     let n = c .before .before .before .before .before .loop .n in
     let index = c .before .before .before .index .ensures in
@@ -44,7 +44,7 @@ loop-again c =
     one-more _ _ _ (c .before .before .before .before .before .loop .inv) (c .before .before .before .before .loop-test .taken) test (c .if1 .taken)
 
 returns : tie.Need-returns Inv-loop μ-loop
-returns c = 
+returns c =
     let s = c .before .before .before .before .before .before in
     let n = c .before .before .before .before .before .loop .n in
     let index = c .before .before .before .index .ensures in

@@ -29,13 +29,19 @@ stands-later-requires : tie.Need-stands-later-requires Inv-loop μ-loop
 stands-later-requires c κs = (c .before .before .before .pre, omega arith)
 
 returns : tie.Need-returns Inv-loop μ-loop
-returns c = let s = c .before .before .before .before .before in twice _ _ (s .good .0 .1 .0 .1) (s .pre) _ _ _ (c .before .before .before .loop .inv) (c .before .before .loop-test .taken) (rw add-one at (c .before .stands-later .ensures)) (c .if1 .taken)
+returns c =
+    let s = c .before .before .before .before .before in
+    let later = rw add-one at (c .before .stands-later .ensures) in
+    twice _ _ (s .good .0 .1 .0 .1) (s .pre) _ _ _ (c .before .before .before .loop .inv) (c .before .before .loop-test .taken) later (c .if1 .taken)
 
 loop-less : tie.Need-loop-less Inv-loop μ-loop
 loop-less c = omega arith
 
 loop-again : tie.Need-loop-again Inv-loop μ-loop
-loop-again c = let s = c .before .before .before .before .before in once-more _ _ (s .good .0 .1 .0 .1) (s .pre) _ _ _ (c .before .before .before .loop .inv) (c .before .before .loop-test .taken) (rw add-one at (c .before .stands-later .ensures)) (c .if1 .left)
+loop-again c =
+    let s = c .before .before .before .before .before in
+    let later = rw add-one at (c .before .stands-later .ensures) in
+    once-more _ _ (s .good .0 .1 .0 .1) (s .pre) _ _ _ (c .before .before .before .loop .inv) (c .before .before .loop-test .taken) later (c .if1 .left)
 
 returns-2 : tie.Need-returns-2 Inv-loop μ-loop
 returns-2 c = let s = c .before .before .before in all-once _ _ (s .good .0 .1 .0 .1) (s .pre) _ _ (c .before .loop .inv) (c .loop-test .left)

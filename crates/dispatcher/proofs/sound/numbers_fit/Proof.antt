@@ -32,10 +32,14 @@ loop-less : tie.Need-loop-less Inv-loop μ-loop
 loop-less c = omega arith
 
 loop-again : tie.Need-loop-again Inv-loop μ-loop
-loop-again c = let s = c .before .before .before .before in all-more _ _ _ (s .good .0 .1 .0 .1) (s .pre) _ _ _ (c .before .before .loop .inv) (c .before .loop-test .taken) (refl) (lt-ltb _ _ (c .if1 .taken))
+loop-again c =
+    let s = c .before .before .before .before in
+    all-more _ _ _ (s .good .0 .1 .0 .1) (s .pre) _ _ _ (c .before .before .loop .inv) (c .before .loop-test .taken) refl (lt-ltb _ _ (c .if1 .taken))
 
 returns : tie.Need-returns Inv-loop μ-loop
-returns c = let s = c .before .before .before .before in all-fails _ _ _ (s .good .0 .1 .0 .1) (s .pre) _ _ _ (c .before .before .loop .inv) (c .before .loop-test .taken) (refl) (le-ltb _ _ (c .if1 .left))
+returns c =
+    let s = c .before .before .before .before in
+    all-fails _ _ _ (s .good .0 .1 .0 .1) (s .pre) _ _ _ (c .before .before .loop .inv) (c .before .loop-test .taken) refl (le-ltb _ _ (c .if1 .left))
 
 returns-2 : tie.Need-returns-2 Inv-loop μ-loop
 returns-2 c = let s = c .before .before .before in all-passed _ _ _ (s .good .0 .1 .0 .1) (s .pre) _ _ (c .before .loop .inv) (c .loop-test .left)

@@ -14,7 +14,10 @@ thread-at-requires : tie.Need-thread-at-requires
 thread-at-requires c κs = search needs
 
 returns : tie.Need-returns
-returns c = let s = c .before .before in ap (λ (t : Thread). t .live) (c .thread-at .ensures) ∙ ap (λ (n : ℕ). liveAt (s .args .threads) n) (slice-test (λ (x : Slice). x .owner) (s .args .timeslices) _ _ (c .before .timeslice-at .ensures))
+returns c =
+    let s = c .before .before in
+    let owner = slice-test (λ (x : Slice). x .owner) (s .args .timeslices) _ _ (c .before .timeslice-at .ensures) in
+    ap (λ (t : Thread). t .live) (c .thread-at .ensures) ∙ ap (λ (n : ℕ). liveAt (s .args .threads) n) owner
 
 pub owner-live-spec : {M : Type 1} → statement M
 owner-live-spec = tie.close (tie.spec timeslice-at-requires thread-at-requires returns)

@@ -38,7 +38,11 @@ loop-less : tie.Need-loop-less Inv-loop μ-loop
 loop-less c = omega (arith, c .before .before .loop .inv .0)
 
 loop-again : tie.Need-loop-again Inv-loop μ-loop
-loop-again c = let s = c .before .before .before .before in let v = c .before .before .loop .inv in (v .0, omega arith, one-mapped _ _ _ _ _ (s .good .1 .0 .1 .0 .1) (v .2) (omega (arith, s .pre)) (slice-test (λ (x : Slice). x .owner) (s .args .timeslices) _ _ (c .timeslice-at .ensures)))
+loop-again c =
+    let s = c .before .before .before .before in
+    let v = c .before .before .loop .inv in
+    let owner = slice-test (λ (x : Slice). x .owner) (s .args .timeslices) _ _ (c .timeslice-at .ensures) in
+    (v .0, omega arith, one-mapped _ _ _ _ _ (s .good .1 .0 .1 .0 .1) (v .2) (omega (arith, s .pre)) owner)
 
 returns : tie.Need-returns Inv-loop μ-loop
 returns c = let v = c .before .loop .inv in let e : c .before .loop .i ≡ c .before .before .before .args .live = omega (arith, v .0, v .1) in rw e at (v .2 .front)

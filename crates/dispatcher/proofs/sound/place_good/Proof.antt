@@ -46,13 +46,26 @@ returns : tie.Need-returns
 returns c = let s = c .before .before .before in place-is (s .args .threads) (s .args .timeslices) _ _ _ Queue (c .before .before .timeslice-at .ensures) (c .enum-told .given .1)
 
 returns-2 : tie.Need-returns-2
-returns-2 c = let s = c .before .before .before .before .before in c .behind-good .ensures ∙ place-is (s .args .threads) (s .args .timeslices) _ _ _ (Behind _) (c .before .before .before .before .timeslice-at .ensures) (c .before .before .place .given .1)
+returns-2 c =
+    let s = c .before .before .before .before .before in
+    let x = c .before .before .before .before .timeslice-at .ensures in
+    c .behind-good .ensures ∙ place-is (s .args .threads) (s .args .timeslices) _ _ _ (Behind _) x (c .before .before .place .given .1)
 
 returns-3 : tie.Need-returns-3
-returns-3 c = let s = c .before .before .before .before .before .before .before in verdict-test (s .args .threads) (waitsAt _) _ _ (c .before .verdict-of .result) _ (c .waits-at .ensures) (c .before .verdict-of .ensures) (chain-is (s .args .threads) (s .args .timeslices) _ _ _ (c .before .before .before .before .before .before .timeslice-at .ensures) (c .before .before .walk .ensures)) ∙ place-is (s .args .threads) (s .args .timeslices) _ _ _ (On _) (c .before .before .before .before .before .before .timeslice-at .ensures) (c .before .before .before .before .place2 .given .1)
+returns-3 c =
+    let s = c .before .before .before .before .before .before .before in
+    let x = c .before .before .before .before .before .before .timeslice-at .ensures in
+    let chain = chain-is (s .args .threads) (s .args .timeslices) _ _ _ x (c .before .before .walk .ensures) in
+    let said = verdict-test (s .args .threads) (waitsAt _) _ _ (c .before .verdict-of .result) _ (c .waits-at .ensures) (c .before .verdict-of .ensures) chain in
+    said ∙ place-is (s .args .threads) (s .args .timeslices) _ _ _ (On _) x (c .before .before .before .before .place2 .given .1)
 
 returns-4 : tie.Need-returns-4
-returns-4 c = let s = c .before .before .before .before .before .before in verdict-test (s .args .threads) (λ d v. isStalls v) _ _ (c .before .verdict-of2 .result) _ (c .is-stalls .ensures) (c .before .verdict-of2 .ensures) (chain-is (s .args .threads) (s .args .timeslices) _ _ _ (c .before .before .before .before .before .timeslice-at .ensures) (c .before .before .walk2 .ensures)) ∙ place-is (s .args .threads) (s .args .timeslices) _ _ _ Stalled (c .before .before .before .before .before .timeslice-at .ensures) (c .before .before .before .enum-told2 .given .1)
+returns-4 c =
+    let s = c .before .before .before .before .before .before in
+    let x = c .before .before .before .before .before .timeslice-at .ensures in
+    let chain = chain-is (s .args .threads) (s .args .timeslices) _ _ _ x (c .before .before .walk2 .ensures) in
+    let said = verdict-test (s .args .threads) (λ d v. isStalls v) _ _ (c .before .verdict-of2 .result) _ (c .is-stalls .ensures) (c .before .verdict-of2 .ensures) chain in
+    said ∙ place-is (s .args .threads) (s .args .timeslices) _ _ _ Stalled x (c .before .before .before .enum-told2 .given .1)
 
 pub place-good-spec : {M : Type 1} → statement M
 place-good-spec =

@@ -23,7 +23,11 @@ runs-as-requires : tie.Need-runs-as-requires
 runs-as-requires c κs = search needs
 
 returns : tie.Need-returns
-returns c = let s = c .before .before .before .before .before .before .before .before in current-is (s .args .threads) _ _ _ _ _ _ _ (c .before .before .before .before .before .before .running .given .1) (c .before .before .before .before .if1 .taken) (verdict-test (s .args .threads) (runsAs _ _) _ _ (c .before .verdict-of .result) _ (c .runs-as .ensures) (c .before .verdict-of .ensures) (chain-is (s .args .threads) (s .args .timeslices) _ _ _ (c .before .before .before .timeslice-at .ensures) (c .before .before .walk .ensures)))
+returns c =
+    let s = c .before .before .before .before .before .before .before .before in
+    let chain = chain-is (s .args .threads) (s .args .timeslices) _ _ _ (c .before .before .before .timeslice-at .ensures) (c .before .before .walk .ensures) in
+    let said = verdict-test (s .args .threads) (runsAs _ _) _ _ (c .before .verdict-of .result) _ (c .runs-as .ensures) (c .before .verdict-of .ensures) chain in
+    current-is (s .args .threads) _ _ _ _ _ _ _ (c .before .before .before .before .before .before .running .given .1) (c .before .before .before .before .if1 .taken) said
 
 returns-2 : tie.Need-returns-2
 returns-2 c = search needs
