@@ -1,0 +1,3 @@
+-- What the functions that write the key say of the buffer that they are lent.
+pub mod Put
+pub mod Line
