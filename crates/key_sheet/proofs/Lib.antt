@@ -1,3 +1,6 @@
 pub mod Puts
 pub mod Decimals
 pub mod Lines
+pub mod Lengths
+pub mod Sizes
+pub mod Room

@@ -1,5 +1,4 @@
 // Bytes and decimal numbers, written into a lent buffer. Each function gives the place after the last byte that it wrote.
-ghost use mathlib.Core.Path.{_≡_};
 ghost use mathlib.Core.List.{[], _∷_};
 ghost use Prim.Native.Nat.{_+_, _≤_, _<_};
 ghost use lib.ListN.{length};

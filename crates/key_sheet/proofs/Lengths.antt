@@ -1,0 +1,92 @@
+-- How long a line of the key can be.
+use Prim.Native.Nat.{ℕ, zero, suc, _+_, _*_, _/_, _≤_, _<_}
+use native.Mathlib.Omega.{arith}
+use mathlib.Core.Path.{_≡_, refl}
+use mathlib.Core.List.{List, [], _∷_}
+use lib.ListN.{length, length-append}
+use lib.Dec.{ltb}
+use Rattle.rules.specs.declared.Running.{Running}
+use Rattle.rules.specs.declared.Running.the-variants.{Nothing, Runs}
+use Rattle.rules.specs.Events.{Answered}
+use Rattle.rules.specs.Key.{bytes, decimal, verdictWord, runningColumns, columns, line, lines, fileLine}
+use Rattle.rules.proofs.Basics.Views.{Two, yes-true, no-false, two}
+use borrow.Author.Tests.{ltb-true, ltb-false}
+use Rattle.key_sheet.proofs.Decimals.{one-digit, last-digit}
+
+-- one digit more for ten times the number
+module _ (k bound : ℕ) (some : 1 ≤ k) (shorter : (m : ℕ) → m < bound → length (decimal m) ≤ k) where
+  by-size : (n : ℕ) → n < bound * 10 → Two (ltb n 10) → length (decimal n) ≤ suc k
+  by-size n h (yes-true e) = rw (one-digit n (ltb-true n 10 e)) (omega arith)
+  by-size n h (no-false e) =
+      rw (last-digit n (ltb-false n 10 e), length-append) (omega (arith, shorter (n / 10) (omega arith)))
+
+  longer : (n : ℕ) → n < bound * 10 → length (decimal n) ≤ suc k
+  longer n h = by-size n h (two (ltb n 10))
+
+one-long : (n : ℕ) → n < 10 → length (decimal n) ≤ 1
+one-long n h = rw (one-digit n h) (omega arith)
+
+pub two-long : (n : ℕ) → n < 100 → length (decimal n) ≤ 2
+two-long = longer 1 10 (omega arith) one-long
+
+pub three-long : (n : ℕ) → n < 1000 → length (decimal n) ≤ 3
+three-long = longer 2 100 (omega arith) two-long
+
+four-long : (n : ℕ) → n < 10000 → length (decimal n) ≤ 4
+four-long = longer 3 1000 (omega arith) three-long
+
+pub five-long : (n : ℕ) → n < 100000 → length (decimal n) ≤ 5
+five-long = longer 4 10000 (omega arith) four-long
+
+-- an answer whose columns are numbers of one byte, and its links of two
+abbrev pub RunsNarrow : Running → Type 0
+RunsNarrow Nothing = Unit {0}
+RunsNarrow (Runs n t count) = (n < 256) × (t < 256) × (count < 256)
+
+pub record Narrow (a : Answered) : Type 0 where
+  pub refusal : a .refusal < 256
+  pub running : RunsNarrow (a .state .running)
+  pub links : a .links < 65536
+
+abbrev pub AllNarrow : List Answered → Type 0
+AllNarrow [] = Unit {0}
+AllNarrow (a ∷ rest) = Narrow a × AllNarrow rest
+
+-- the columns of such an answer
+running-length : (r : Running) → RunsNarrow r → length (runningColumns r) ≤ 11
+unfolding bytes
+running-length Nothing h = omega arith
+running-length (Runs n t count) h =
+    simp length-append
+    (omega (arith, three-long n (omega arith), three-long t (omega arith), three-long count (omega arith)))
+
+verdict-length : (number : ℕ) → length (verdictWord number) ≡ 2
+unfolding bytes
+verdict-length zero = refl
+verdict-length (suc number) = refl
+
+pub line-length : (number : ℕ) (a : Answered) → number < 65536 → Narrow a → length (line number a) ≤ 31
+unfolding line columns bytes
+line-length number a h x =
+    simp length-append
+    (omega (
+      arith,
+      five-long number (omega arith),
+      verdict-length (a .refusal),
+      three-long (a .refusal) (omega (arith, x .refusal)),
+      running-length (a .state .running) (x .running),
+      five-long (a .links) (omega (arith, x .links)),
+    ))
+
+-- as many lines as answers
+pub lines-length : (number : ℕ) (l : List Answered) → AllNarrow l → number + length l ≤ 65536 → length (lines number l) ≤ 31 * length l
+unfolding lines
+lines-length number [] x h = omega arith
+lines-length number (a ∷ rest) x h =
+    rw length-append
+    (omega (arith, line-length number a (omega arith) (x .0), lines-length (number + 1) rest (x .1) (omega arith)))
+
+-- a refused file's line
+pub file-line-length : (number : ℕ) → number < 100 → length (fileLine number) ≤ 8
+unfolding fileLine bytes
+file-line-length number h = simp length-append (omega (arith, two-long number h))

@@ -1,0 +1,164 @@
+-- On a sound machine every column of the key is a small number.
+use Prim.Native.Nat.{ℕ, zero, suc, _+_, _*_, _≤_, _<_}
+use native.Mathlib.Nat.{mul-le-mul}
+use native.Mathlib.Omega.{arith}
+use mathlib.Core.Path.{_≡_, refl, sym, ap, _∙_}
+use mathlib.Core.List.{List, [], _∷_, map}
+use mathlib.Core.Bool.{Bool, true, false, not, _||_}
+use lib.ListN.{length, length-map, List·getD-eq-default}
+use lib.Dec.{T, leb, ltb, eqb, leb→le, lit≤}
+use borrow.Author.Tests.{ltb-true, ltb-false}
+use Rattle.rules.specs.declared.Thread.{Thread}
+use Rattle.rules.specs.declared.Chain.{Chain}
+use Rattle.rules.specs.declared.Running.{Running}
+use Rattle.rules.specs.declared.Running.the-variants.{Nothing, Runs}
+use Rattle.rules.specs.declared.Event.{Event}
+use Rattle.rules.specs.declared.Event.the-variants.{Create, Give, Call, Reply, Block, Wake, Charge, Abort}
+use Rattle.rules.specs.Tests.{member, distinct}
+use Rattle.rules.specs.State.{State, Plain, forget, freeThread, ownerAt, holdAt, liveAt, sliceAt, oneMoreIf, liveThreads, nothingRuns, runningThread, currentTimeslice}
+use Rattle.rules.specs.Walk.{Link, noLinks}
+use Rattle.rules.specs.Refusals.{_gives_else_, aboveLimit, ownsOne, refusal}
+use Rattle.rules.specs.Holds.{serverAt, isBlocked, linked}
+use Rattle.rules.specs.Events.{dispatchAfter, dispatch, offerIf, offer}
+use Rattle.rules.specs.Sound.{sound}
+use Rattle.rules.specs.Lists.{fits, allFit, run}
+use Rattle.rules.proofs.Basics.Views.{Two, yes-true, no-false, two, clash, and-true-left, and-true-right}
+use Rattle.rules.proofs.Basics.Members.{member-here, member-there, distinct-head, distinct-tail, image-of, map-distinct}
+use Rattle.rules.proofs.Links.Counting.{liveThat, liveThat-at-most, liveThat-more}
+use Rattle.rules.proofs.Links.Chains.{To, stop, call, help, walk-ends, walk-links}
+use Rattle.rules.proofs.Soundness.Standings.{links-live}
+use Rattle.rules.proofs.Soundness.Places.{Sound, owner, owner-live}
+use Rattle.rules.proofs.Events.Hands.{linkLimit, active}
+use Rattle.rules.proofs.Agreement.{agrees}
+use Rattle.key_sheet.proofs.Lengths.{RunsNarrow, AllNarrow}
+
+-- the first fitting number is within a bound if every number is
+pub most : {bound rest : ℕ} (b : Bool) (k : ℕ) → T (leb k bound) → rest ≤ bound → (b gives k else rest) ≤ bound
+most {bound} true k h g = leb→le k bound h
+most {bound} false k h g = g
+
+-- every refusal number is at most 13
+refusal-most : (e : Event) (p : Plain) → refusal e p ≤ 13
+refusal-most (Create n r) p =
+    most (aboveLimit n) 2 tt (
+    most (liveAt (p .threads) n) 3 tt (lit≤ tt))
+refusal-most (Give t n priority quantum) p =
+    most (aboveLimit t || aboveLimit n) 2 tt (
+    most (member t (p .order)) 3 tt (
+    most (not (liveAt (p .threads) n)) 4 tt (
+    most (ownsOne p n) 13 tt (
+    most (eqb quantum 0) 12 tt (lit≤ tt)))))
+refusal-most (Call server) p =
+    most (nothingRuns (p .running)) 5 tt (
+    most (aboveLimit server) 2 tt (
+    most (not (liveAt (p .threads) server)) 4 tt (
+    most (not (serverAt (p .threads) server)) 6 tt (
+    most (eqb server (runningThread (p .running))) 7 tt (lit≤ tt)))))
+refusal-most Reply p =
+    most (nothingRuns (p .running)) 5 tt (
+    most (not (serverAt (p .threads) (runningThread (p .running)))) 8 tt (lit≤ tt))
+refusal-most Block p =
+    most (nothingRuns (p .running)) 5 tt (lit≤ tt)
+refusal-most (Wake n) p =
+    most (aboveLimit n) 2 tt (
+    most (not (liveAt (p .threads) n)) 4 tt (
+    most (not (isBlocked (holdAt (p .threads) n))) 9 tt (lit≤ tt)))
+refusal-most (Charge units) p =
+    most (nothingRuns (p .running)) 5 tt (
+    most (eqb units 0 || ltb (sliceAt (p .slices) (currentTimeslice (p .running)) .left) units) 11 tt (lit≤ tt))
+refusal-most (Abort n) p =
+    most (aboveLimit n) 2 tt (
+    most (not (liveAt (p .threads) n)) 4 tt (
+    most (not (linked (holdAt (p .threads) n))) 10 tt (lit≤ tt)))
+
+after-most : (k : ℕ) (e : Event) (s : State) → k ≤ 13 → dispatchAfter k e s .refusal ≤ 13
+after-most zero e s h = h
+after-most (suc k) e s h = h
+
+offer-most : (e : Event) (s : State) → offer e s .refusal ≤ 13
+unfolding offer dispatch
+offer-most e s = by (sound s)
+  where
+    by : (b : Bool) → offerIf b e s .refusal ≤ 13
+    by true = after-most (refusal e (forget s)) e s (refusal-most e (forget s))
+    by false = omega arith
+
+-- there are as many threads as slots, or fewer
+live-most : (ts : List Thread) → liveThreads ts ≤ length ts
+unfolding liveThreads
+live-most [] = omega arith
+live-most (t ∷ ts) = by (t .live) (live-most ts)
+  where
+    by : (b : Bool) → liveThreads ts ≤ length ts → oneMoreIf b (liveThreads ts) ≤ suc (length ts)
+    by true h = omega arith
+    by false h = omega arith
+
+-- a live thread has a slot
+live-below : (ts : List Thread) (n : ℕ) → liveAt ts n ≡ true → n < length ts
+live-below ts n e = by (two (ltb n (length ts)))
+  where
+    by : Two (ltb n (length ts)) → n < length ts
+    by (yes-true h) = ltb-true n (length ts) h
+    by (no-false h) =
+        clash true refl (sym e ∙ ap (λ (t : Thread). t .live) (List·getD-eq-default ts freeThread (ltb-false n (length ts) h)))
+
+-- a chain has no more donations than links
+count-most : {ln : ℕ → Link} {n m : ℕ} {c d : Chain} → c .count ≤ c .links → To ln n c m d → d .count ≤ d .links
+count-most h stop = h
+count-most h (call l p) = count-most (omega arith) p
+count-most h (help l p) = count-most (omega arith) p
+
+-- what runs
+runs-narrow : (s : State) → Sound s → (r : Running) → s .running ≡ r → RunsNarrow r
+runs-narrow s x Nothing e = tt
+runs-narrow s x (Runs n t count) e =
+    let a = active s x n t count e in
+    let shape = x .mid .shape in
+    let found = walk-ends (s .threads) (links-live (shape .sane)) (owner s t) (owner-live s shape t (a .listed)) (a .runs .ends) in
+    let links : a .runs .chain .links ≤ liveThreads (s .threads) = rw found at (walk-links (s .threads) (owner s t)) in
+    let full = shape .sane .full in (
+      omega (arith, live-below (s .threads) n (a .live), full),
+      omega (arith, shape .turns .small t (a .listed)),
+      omega (arith, count-most {c = noLinks} (omega arith) (a .runs .ends .path), a .runs .counted, live-most (s .threads), full),
+    )
+
+-- different numbers of live threads are no more than the live threads
+listed-live : (ts : List Thread) (ns : List ℕ) → distinct ns ≡ true → ((n : ℕ) → member n ns ≡ true → liveAt ts n ≡ true)
+    → length ns ≤ liveThat (λ n. member n ns) ts
+listed-live ts [] d live = omega arith
+listed-live ts (n ∷ ns) d live =
+    let more =
+    liveThat-more (λ m. member m ns) (λ m. member m (n ∷ ns)) (λ m h. member-there m n ns h) ts n
+    (live n (member-here n n ns refl)) (distinct-head n ns d) (member-here n n ns refl) in
+    omega (arith, listed-live ts ns (distinct-tail n ns d) (λ m h. live m (member-there m n ns h)))
+
+-- each timeslice has a live owner of its own, so there are no more timeslices than threads
+timeslices-most : (s : State) → Sound s → length (s .order) ≤ liveThreads (s .threads)
+timeslices-most s x =
+    let turns = x .mid .shape .turns in
+    let owners = map (λ t. ownerAt (s .slices) t) (s .order) in
+    let listed =
+    listed-live (s .threads) owners (map-distinct (λ t. ownerAt (s .slices) t) (s .order) (turns .once) (turns .owners))
+    (λ n h. let i = image-of (λ t. ownerAt (s .slices) t) (s .order) n h in rw (i .image) at (turns .owner (i .of) (i .member-of))) in
+    omega (arith, length-map (s .order) (λ t. ownerAt (s .slices) t), liveThat-at-most (λ n. member n owners) (s .threads))
+
+-- the links of an event
+links-most : (s : State) → Sound s → linkLimit (forget s) ≤ 128 * 130
+links-most s x =
+    let live : liveThreads (s .threads) ≤ 128 = omega (arith, live-most (s .threads), x .mid .shape .sane .full) in
+    let timeslices : length (s .order) + 2 ≤ 130 = omega (arith, timeslices-most s x) in
+    mul-le-mul live timeslices
+
+-- every answer of a list of events
+pub run-narrow : (es : List Event) (s : State) → allFit es ≡ true → Sound s → AllNarrow (run es s)
+unfolding run allFit
+run-narrow [] s f x = tt
+run-narrow (e ∷ es) s f x =
+    let a = agrees e s x (and-true-left (fits e) (allFit es) f) in (
+      record {
+        refusal = omega (arith, offer-most e s);
+        running = runs-narrow (offer e s .state) (a .sound) (offer e s .state .running) refl;
+        links = omega (arith, a .links, links-most s x);
+      },
+      run-narrow es (offer e s .state) (and-true-right (fits e) (allFit es) f) (a .sound),
+    )
