@@ -4,3 +4,4 @@ pub mod Lines
 pub mod Lengths
 pub mod Sizes
 pub mod Room
+pub mod Sheets

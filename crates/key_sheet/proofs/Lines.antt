@@ -1,11 +1,17 @@
 -- The lines of the key by their parts.
-use Prim.Native.Nat.{ℕ, zero, suc}
+use Prim.Native.Nat.{ℕ, zero, suc, _+_}
 use mathlib.Core.Path.{_≡_, refl}
-use mathlib.Core.List.{List, _++_, append-assoc}
+use mathlib.Core.List.{List, [], _∷_, _++_, append-assoc}
+use mathlib.Core.Bool.{true}
 use Rattle.rules.specs.declared.Running.{Running}
 use Rattle.rules.specs.declared.Running.the-variants.{Runs}
-use Rattle.rules.specs.Events.{Answered}
-use Rattle.rules.specs.Key.{bytes, decimal, verdictWord, runningColumns, columns, line}
+use Rattle.rules.specs.declared.Event.{Event}
+use Rattle.rules.specs.State.{State}
+use Rattle.rules.specs.Sound.{sound}
+use Rattle.rules.specs.Events.{Answered, dispatch}
+use Rattle.rules.specs.Lists.{run}
+use Rattle.rules.specs.Key.{bytes, decimal, verdictWord, runningColumns, columns, line, lines}
+use Rattle.rules.proofs.Agreement.{offer-sound}
 use Rattle.key_sheet.specs.Put.{Put}
 use Rattle.key_sheet.specs.Line.{lineBytes}
 use Rattle.key_sheet.proofs.Puts.{_then_, reading}
@@ -32,3 +38,16 @@ pub columns-in-parts : (number refusal : ℕ) (running : Running)
     ≡ columns number refusal running
 unfolding columns
 columns-in-parts number refusal running = simp append-assoc
+
+-- one more line: that of the next event
+pub next-line : (number : ℕ) (e : Event) (es : List Event) (s : State) → sound s ≡ true
+    → lines number (run (e ∷ es) s)
+    ≡ lineBytes number (dispatch e s .refusal) (dispatch e s .state .running) (dispatch e s .links)
+    ++ lines (number + 1) (run es (dispatch e s .state))
+unfolding lines run
+next-line number e es s h = rw (offer-sound e s h, line-bytes)
+
+-- nothing left to print
+pub no-lines : (number : ℕ) (s : State) → lines number (run [] s) ≡ []
+unfolding lines run
+no-lines number s = refl

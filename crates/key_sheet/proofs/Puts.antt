@@ -62,6 +62,11 @@ pub roomier : {m : ℕ} {a b : List ℕ} {i j : ℕ} {xs : List ℕ} (n : ℕ) �
 roomier n h p =
     record { bytes = p .bytes; end = p .end; most = omega (arith, p .most); fits = p .fits; size = p .size }
 
+-- as much room as there is up to its end
+pub up-to-end : {m : ℕ} {a b : List ℕ} {i j : ℕ} {xs : List ℕ} → Put m a b i j xs → Put j a b i j xs
+up-to-end p =
+    record { bytes = p .bytes; end = p .end; most = omega arith; fits = p .fits; size = p .size }
+
 -- the same text in other words
 pub reading : {m : ℕ} {a b : List ℕ} {i j : ℕ} {xs ys : List ℕ} → xs ≡ ys → Put m a b i j xs → Put m a b i j ys
 reading e p = rw e at p

@@ -40,7 +40,7 @@ records-length [] = omega arith
 records-length (e ∷ es) = rw length-append (omega (arith, record-length e, records-length es))
 
 -- so a file has at most half as many events as bytes
-events-most : (file : List ℕ) → Bytes file → fileRefusal file ≡ 0 → 5 + 2 * length (eventsOf file) ≤ length file
+pub events-most : (file : List ℕ) → Bytes file → fileRefusal file ≡ 0 → 5 + 2 * length (eventsOf file) ≤ length file
 unfolding fileOf
 events-most file bytes h =
     omega (arith, ap length (as-written file bytes h), records-length (eventsOf file))
@@ -51,7 +51,7 @@ unfolding run
 run-length [] s = refl
 run-length (e ∷ es) s = ap suc (run-length es (offer e s .state))
 
-empty-sound : sound empty ≡ true
+pub empty-sound : sound empty ≡ true
 unfolding computing
 empty-sound = refl
 

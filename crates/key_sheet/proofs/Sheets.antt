@@ -1,0 +1,148 @@
+-- Printing event by event: what is put and what is left to print make the whole.
+use Prim.Native.Nat.{ℕ, suc, _+_, _*_, _≤_, _<_}
+use native.Mathlib.Omega.{arith}
+use mathlib.Core.Path.{_≡_, refl, sym, ap, _∙_}
+use mathlib.Core.List.{List, [], _∷_, _++_, append-assoc, append-nil}
+use mathlib.Core.Bool.{true, _&&_}
+use mathlib.Core.Option.{Option, none, some}
+use lib.ListN.{length, getD, drop, drop-of-length-le}
+use Rattle.rules.specs.declared.Event.{Event}
+use Rattle.rules.specs.State.{State, empty}
+use Rattle.rules.specs.Sound.{sound}
+use Rattle.rules.specs.Events.{dispatch}
+use Rattle.rules.specs.Lists.{fits, allFit, run}
+use Rattle.rules.specs.EventFile.{recordAt, joined, eventsAfter, fileRefusal, eventsOf, event, Stepped, steppedTo, stepped}
+use Rattle.rules.specs.Key.{lines}
+use Rattle.rules.proofs.Basics.Views.{and-true-left, and-true-right}
+use Rattle.rules.proofs.Agreement.{offer-sound}
+use Rattle.rules.proofs.Demands.{accepted-sound}
+use Rattle.event_file.proofs.Reading.{eventsAfter-drop, record-inside}
+use Rattle.event_file.proofs.Cursor.{stepped-at}
+use Rattle.event_file.proofs.Accepting.{accepted}
+use Rattle.event_file.proofs.ReadThenWritten.{Bytes}
+use Rattle.event_file.proofs.Inverse.{events-fit}
+use Rattle.key_sheet.specs.Put.{Put}
+use Rattle.key_sheet.specs.Line.{lineBytes}
+use Rattle.key_sheet.proofs.Puts.{_then_, put-none, up-to-end, reading}
+use Rattle.key_sheet.proofs.Lines.{next-line, no-lines}
+use Rattle.key_sheet.proofs.Room.{events-most, empty-sound}
+
+-- the buffer was `before`; the next event is read at `offset`, has this number and goes to the machine s; its line goes to `at`
+pub record Going (file before now : List ℕ) (at offset number : ℕ) (s : State) : Type 0 where
+  pub left : List Event
+  pub text : List ℕ
+  pub put : Put at before now 0 at text
+  pub whole : text ++ lines number (run left s) ≡ lines 1 (run (eventsOf file) empty)
+  pub reads : eventsAfter 0 (drop offset file) ≡ some left
+  pub low : 5 ≤ offset
+  pub inside : offset ≤ length file
+  pub fit : allFit left ≡ true
+  pub sound : sound s ≡ true
+  pub room : at + 31 * length left ≤ length before
+  pub few : number + length left ≤ 65535
+
+-- before the first event
+pub begin : (file before : List ℕ) → Bytes file → fileRefusal file ≡ 0 → 16 * length file ≤ length before → Going file before before 0 5 1 empty
+begin file before bytes h room =
+    let a = accepted file h in
+    let few = events-most file bytes h in
+    let small = a .head .small in
+    record {
+      left = eventsOf file;
+      text = [];
+      put = put-none before 0 (omega arith);
+      whole = refl;
+      reads = a .records;
+      low = omega arith;
+      inside = a .head .five;
+      fit = events-fit file bytes;
+      sound = empty-sound;
+      room = omega arith;
+      few = omega arith;
+    }
+
+-- reading yields events only where a record is good and the rest reads
+record Joined (o : Option Event) (l : Option (List Event)) (left : List Event) : Type 0 where
+  next : Event
+  rest : List Event
+  split : left ≡ next ∷ rest
+  here : o ≡ some next
+  later : l ≡ some rest
+
+-- at an offset inside the file stands the next event
+pub record Ahead (file : List ℕ) (offset : ℕ) (left : List Event) : Type 0 where
+  pub next : Event
+  pub rest : List Event
+  pub split : left ≡ next ∷ rest
+  pub step : stepped file offset ≡ record { found = event next; offset = offset + 1 + getD file offset 0 }
+  pub reads : eventsAfter 0 (drop (offset + 1 + getD file offset 0) file) ≡ some rest
+  pub inside : offset + 1 + getD file offset 0 ≤ length file
+
+some-joined : (o : Option Event) (l : Option (List Event)) (left : List Event) → joined o l ≡ some left → Joined o l left
+some-joined none l left e = let z : _≡_ {A = ℕ} 0 1 = cc in absurd (omega arith)
+some-joined (some x) none left e = let z : _≡_ {A = ℕ} 0 1 = cc in absurd (omega arith)
+some-joined (some x) (some es) left e = record { next = x; rest = es; split = cc; here = refl; later = refl }
+
+pub ahead : (file : List ℕ) (offset : ℕ) (left : List Event) → 5 ≤ offset → offset < length file
+    → eventsAfter 0 (drop offset file) ≡ some left → Ahead file offset left
+ahead file offset left low h e =
+    let j = some-joined (recordAt (drop offset file)) (eventsAfter 0 (drop (offset + 1 + getD file offset 0) file)) left (sym (eventsAfter-drop file offset h) ∙ e) in
+    record {
+      next = j .next;
+      rest = j .rest;
+      split = j .split;
+      step = sym (stepped-at file offset low h) ∙ ap (steppedTo offset (offset + 1 + getD file offset 0)) (j .here);
+      reads = j .later;
+      inside = record-inside file offset (j .next) h (j .here);
+    }
+
+-- the next event's line has room, and its number is a number of two bytes
+pub has-room : {file before now : List ℕ} {at offset number : ℕ} {s : State} → Going file before now at offset number s → offset < length file
+    → (at + 31 ≤ length now) × (number + 1 ≤ 65535)
+has-room {file} {before} {now} {at} {offset} {number} {s} g h =
+    let a = ahead file offset (g .left) (g .low) h (g .reads) in
+    let longer : length (g .left) ≡ suc (length (a .rest)) = ap length (a .split) in
+    (omega (arith, g .room, g .put .size), omega (arith, g .few))
+
+-- the next event's line is put, and the machine goes on
+pub turn : {file before now after : List ℕ} {at to offset number : ℕ} {s : State} (e : Event) → Going file before now at offset number s
+    → offset < length file → stepped file offset .found ≡ event e
+    → Put 31 now after at to (lineBytes number (dispatch e s .refusal) (dispatch e s .state .running) (dispatch e s .links))
+    → Going file before after to (stepped file offset .offset) (number + 1) (dispatch e s .state)
+unfolding allFit
+turn {file} {before} {now} {after} {at} {to} {offset} {number} {s} e g h f p =
+    let a = ahead file offset (g .left) (g .low) h (g .reads) in
+    let rest = a .rest in
+    let same : event (a .next) ≡ event e = sym (ap (λ (x : Stepped). x .found) (a .step)) ∙ f in
+    let split : g .left ≡ e ∷ rest = cc (a .split, same) in
+    let offset′ : stepped file offset .offset ≡ offset + 1 + getD file offset 0 = ap (λ (x : Stepped). x .offset) (a .step) in
+    let fit : (fits e && allFit rest) ≡ true = rw split at (g .fit) in
+    let longer : length (g .left) ≡ suc (length rest) = ap length split in
+    let line = lineBytes number (dispatch e s .refusal) (dispatch e s .state .running) (dispatch e s .links) in
+    record {
+      left = rest;
+      text = g .text ++ line;
+      put = up-to-end (g .put then p);
+      whole =
+          append-assoc (g .text) line (lines (number + 1) (run rest (dispatch e s .state)))
+          ∙ ap (λ (l : List ℕ). g .text ++ l) (sym (next-line number e rest s (g .sound)))
+          ∙ rw split at (g .whole);
+      reads = rw offset′ (a .reads);
+      low = omega (arith, g .low);
+      inside = omega (arith, a .inside);
+      fit = and-true-right (fits e) (allFit rest) fit;
+      sound = rw (offer-sound e s (g .sound)) at (accepted-sound e s (and-true-left (fits e) (allFit rest) fit) (g .sound));
+      room = omega (arith, g .room, p .most);
+      few = omega (arith, g .few);
+    }
+
+-- after the last event
+at-end : (left : List Event) → eventsAfter 0 [] ≡ some left → left ≡ []
+unfolding eventsAfter
+at-end left e = cc
+
+pub done : {file before now : List ℕ} {at offset number : ℕ} {s : State} → Going file before now at offset number s → length file ≤ offset
+    → Put at before now 0 at (lines 1 (run (eventsOf file) empty))
+done {file} {before} {now} {at} {offset} {number} {s} g h =
+    let none-left : g .left ≡ [] = at-end (g .left) (rw (drop-of-length-le file h) at (g .reads)) in
+    reading (sym (append-nil (g .text)) ∙ ap (λ (l : List ℕ). g .text ++ l) (sym (no-lines number s)) ∙ rw none-left at (g .whole)) (g .put)
