@@ -5,3 +5,4 @@ pub mod Lengths
 pub mod Sizes
 pub mod Room
 pub mod Sheets
+pub mod Keys

@@ -60,7 +60,7 @@ refused-small : (n : ℕ) (file : List ℕ) → n ≤ 16 → fileRefusalAfter n 
 refused-small zero file h = most (isNone (recordsIn file)) 16 tt (lit≤ tt)
 refused-small (suc n) file h = h
 
-refusal-small : (file : List ℕ) → fileRefusal file ≤ 16
+pub refusal-small : (file : List ℕ) → fileRefusal file ≤ 16
 unfolding fileRefusal
 refusal-small file =
     refused-small (headRefusal file) file

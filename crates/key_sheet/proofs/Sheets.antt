@@ -5,7 +5,10 @@ use mathlib.Core.Path.{_≡_, refl, sym, ap, _∙_}
 use mathlib.Core.List.{List, [], _∷_, _++_, append-assoc, append-nil}
 use mathlib.Core.Bool.{true, _&&_}
 use mathlib.Core.Option.{Option, none, some}
+use mathlib.Core.Logic.{⊎-elim}
 use lib.ListN.{length, getD, drop, drop-of-length-le}
+use types.Run.{OneOf}
+use denote.Enum.Declared.{tagOf}
 use Rattle.rules.specs.declared.Event.{Event}
 use Rattle.rules.specs.State.{State, empty}
 use Rattle.rules.specs.Sound.{sound}
@@ -13,7 +16,8 @@ use Rattle.rules.specs.Events.{dispatch}
 use Rattle.rules.specs.Lists.{fits, allFit, run}
 use Rattle.rules.specs.EventFile.{recordAt, joined, eventsAfter, fileRefusal, eventsOf, event, Stepped, steppedTo, stepped}
 use Rattle.rules.specs.Key.{lines}
-use Rattle.rules.proofs.Basics.Views.{and-true-left, and-true-right}
+use Rattle.rules.proofs.Basics.Views.{and-true-left, and-true-right, and-true-both}
+use Rattle.rules.proofs.Computing.{computing}
 use Rattle.rules.proofs.Agreement.{offer-sound}
 use Rattle.rules.proofs.Demands.{accepted-sound}
 use Rattle.event_file.proofs.Reading.{eventsAfter-drop, record-inside}
@@ -21,8 +25,16 @@ use Rattle.event_file.proofs.Cursor.{stepped-at}
 use Rattle.event_file.proofs.Accepting.{accepted}
 use Rattle.event_file.proofs.ReadThenWritten.{Bytes}
 use Rattle.event_file.proofs.Inverse.{events-fit}
+use Rattle.event_file.specs.declared.reader.Found.{Found}
+use Rattle.event_file.specs.declared.reader.Found.the-variants.{Record, End, Bad}
+use Rattle.event_file.specs.Answers.{shownFound}
+use Rattle.event_file.proofs.reader.Found.{the-type}
+use Rattle.dispatcher.specs.declared.Machine.{Machine}
+use Rattle.dispatcher.specs.declared.Answered.{Answered}
+use Rattle.dispatcher.specs.Shown.{shown, stored, soundMachine, emptyMachine}
+use Rattle.dispatcher.specs.Promise.{Answers}
 use Rattle.key_sheet.specs.Put.{Put}
-use Rattle.key_sheet.specs.Line.{lineBytes}
+use Rattle.key_sheet.specs.Line.{lineBytes, linesOf}
 use Rattle.key_sheet.proofs.Puts.{_then_, put-none, up-to-end, reading}
 use Rattle.key_sheet.proofs.Lines.{next-line, no-lines}
 use Rattle.key_sheet.proofs.Room.{events-most, empty-sound}
@@ -32,7 +44,7 @@ pub record Going (file before now : List ℕ) (at offset number : ℕ) (s : Stat
   pub left : List Event
   pub text : List ℕ
   pub put : Put at before now 0 at text
-  pub whole : text ++ lines number (run left s) ≡ lines 1 (run (eventsOf file) empty)
+  pub whole : text ++ lines number (run left s) ≡ linesOf file
   pub reads : eventsAfter 0 (drop offset file) ≡ some left
   pub low : 5 ≤ offset
   pub inside : offset ≤ length file
@@ -43,6 +55,7 @@ pub record Going (file before now : List ℕ) (at offset number : ℕ) (s : Stat
 
 -- before the first event
 pub begin : (file before : List ℕ) → Bytes file → fileRefusal file ≡ 0 → 16 * length file ≤ length before → Going file before before 0 5 1 empty
+unfolding linesOf
 begin file before bytes h room =
     let a = accepted file h in
     let few = events-most file bytes h in
@@ -142,7 +155,53 @@ unfolding eventsAfter
 at-end left e = cc
 
 pub done : {file before now : List ℕ} {at offset number : ℕ} {s : State} → Going file before now at offset number s → length file ≤ offset
-    → Put at before now 0 at (lines 1 (run (eventsOf file) empty))
+    → Put at before now 0 at (linesOf file)
 done {file} {before} {now} {at} {offset} {number} {s} g h =
     let none-left : g .left ≡ [] = at-end (g .left) (rw (drop-of-length-le file h) at (g .reads)) in
     reading (sym (append-nil (g .text)) ∙ ap (λ (l : List ℕ). g .text ++ l) (sym (no-lines number s)) ∙ rw none-left at (g .whole)) (g .put)
+
+-- the stored machine, and what its state is
+abbrev pub GoingOn : List ℕ → List ℕ → List ℕ → ℕ → ℕ → ℕ → Machine → Type 0
+GoingOn file before now at offset number m = (stored m ≡ true) × Going file before now at offset number (shown m)
+
+empty-stored : stored emptyMachine ≡ true
+unfolding stored computing
+empty-stored = refl
+
+pub begin-on : (file before : List ℕ) (m : Machine) → m ≡ emptyMachine → Bytes file → fileRefusal file ≡ 0 → 16 * length file ≤ length before
+    → GoingOn file before before 0 5 1 m
+begin-on file before m e bytes h room = rw e (empty-stored, begin file before bytes h room)
+
+-- the machine is one that an event may be given to
+pub still-sound : {file before now : List ℕ} {at offset number : ℕ} (m : Machine) → GoingOn file before now at offset number m → soundMachine m ≡ true
+unfolding soundMachine
+still-sound m g = and-true-both (stored m) (sound (shown m)) (g .0) (g .1 .sound)
+
+-- what the code answered and put is what the definitions say
+pub turn-on : {file before now after : List ℕ} {at to offset next number : ℕ} {m : Machine} {r : Answered} (e : Event)
+    → GoingOn file before now at offset number m → offset < length file
+    → stepped file offset .found ≡ event e → next ≡ stepped file offset .offset → Answers (dispatch e (shown m)) m r
+    → Put 31 now after at to (lineBytes number (r .refusal) (r .machine .running) (r .links))
+    → GoingOn file before after to next (number + 1) (r .machine)
+turn-on {number = number} {m = m} {r = r} e g h f o a p =
+    let running : r .machine .running ≡ dispatch e (shown m) .state .running = ap (λ (s : State). s .running) (a .state) in
+    (a .exact ∙ g .0, rw (o, a .state) (turn e (g .1) h f (rw (a .refusal, running, a .links) at p)))
+
+-- before the end of an accepted file a step finds an event, neither the end nor a bad record
+no-event : (f : Found) (e : Event) → OneOf (1 ∷ 2 ∷ []) (tagOf the-type f) → shownFound f ≡ event e → ⊥
+no-event (Record x) e k p = ⊎-elim (λ q. omega arith) (λ q. omega arith) k
+no-event End e k p = let z : _≡_ {A = ℕ} 0 1 = cc in omega arith
+no-event Bad e k p = let z : _≡_ {A = ℕ} 0 1 = cc in omega arith
+
+pub never : {file before now : List ℕ} {at offset number : ℕ} {s : State} (f : Found) → Going file before now at offset number s
+    → offset < length file → shownFound f ≡ stepped file offset .found → OneOf (1 ∷ 2 ∷ []) (tagOf the-type f) → ⊥
+never {file} {offset = offset} f g h e k =
+    let a = ahead file offset (g .left) (g .low) h (g .reads) in
+    no-event f (a .next) k (e ∙ ap (λ (x : Stepped). x .found) (a .step))
+
+-- each step moves on
+pub further : {file before now : List ℕ} {at offset number : ℕ} {s : State} → Going file before now at offset number s
+    → offset < length file → offset < stepped file offset .offset
+further {file} {offset = offset} g h =
+    let a = ahead file offset (g .left) (g .low) h (g .reads) in
+    omega (arith, ap (λ (x : Stepped). x .offset) (a .step))

@@ -2,3 +2,4 @@
 pub mod Put
 pub mod Line
 pub mod Room
+pub mod Sheet
