@@ -1,29 +1,42 @@
 // Prints the key of the event file on standard input.
+ghost use Prim.Native.Nat.{_≤_};
+ghost use lib.ListN.{length};
 use libc::STDERR_FILENO;
 use libc::STDIN_FILENO;
 use libc::STDOUT_FILENO;
 
-// What was read: so many bytes, or nothing, because reading failed.
-enum Input {
-    Bytes(usize),
-    Failed,
+// What was read, or that reading failed.
+struct Input {
+    failed: bool,
+    bytes: usize,
 }
 
 // Reads until the end or until the buffer is full.
-fn fill(buffer: &mut [u8]) -> Input {
+fn fill(buffer: &mut [u8]) -> Input
+    ensures { λ r. ⌜ r .bytes ≤ length (now (buffer .exit)) ⌝ }
+{
     let mut at: usize = 0;
     while at < buffer.len() {
         let got = libc::read(STDIN_FILENO, &mut buffer[at..]);
         if got < 0 {
-            return Input::Failed;
+            return Input {
+                failed: true,
+                bytes: 0,
+            };
         }
         let n = io::count(got, &buffer[at..]);
         if n == 0 {
-            return Input::Bytes(at);
+            return Input {
+                failed: false,
+                bytes: at,
+            };
         }
         at += n;
     }
-    Input::Bytes(at)
+    Input {
+        failed: false,
+        bytes: at,
+    }
 }
 
 // Room for every key: proofs/Room.antt of key_sheet.
@@ -35,15 +48,13 @@ fn main() {
     // One byte more than a file may have, so that a longer input is seen to be too long.
     let mut file = [0u8; 65537];
     let input = fill(&mut file);
-    match input {
-        Input::Failed => {
-            io::write_all(STDERR_FILENO, b"key: standard input cannot be read\n");
-        }
-        Input::Bytes(n) => {
-            let mut out = room();
-            let sheet = key_sheet::write_key(&file[..n], &mut out);
-            let written = sheet.written;
-            io::write_all(STDOUT_FILENO, &out[..written]);
-        }
+    if input.failed {
+        io::write_all(STDERR_FILENO, b"key: standard input cannot be read\n");
+        return;
     }
+    let n = input.bytes;
+    let mut out = room();
+    let sheet = key_sheet::write_key(&file[..n], &mut out);
+    let written = sheet.written;
+    io::write_all(STDOUT_FILENO, &out[..written]);
 }

@@ -19,7 +19,7 @@ empty-requires : tie.Need-empty-requires Inv-loop μ-loop
 empty-requires c κs = tt
 
 loop-holds : tie.Need-loop-holds Inv-loop μ-loop
-loop-holds c = 
+loop-holds c =
     begin-on (now (c .before .before .before .args .file)) (now (c .before .before .before .args .out)) (c .empty .result) (c .empty .ensures) (λ i. c .before .before .shared-slice-known .given i .fits)
     (c .before .before .before .pre .0) (c .before .before .before .pre .1)
 
@@ -33,7 +33,7 @@ same-length : tie.Need-same-length Inv-loop μ-loop
 same-length c = c .before .before .before .loop .inv .1 .put .size
 
 returns : tie.Need-returns Inv-loop μ-loop
-returns c = 
+returns c =
     absurd (never (c .before .step .result .found) (c .before .before .before .loop .inv .1) (c .before .before .loop-test .taken) (c .before .step .ensures .0) (c .match .keys2))
 
 dispatch-requires : tie.Need-dispatch-requires Inv-loop μ-loop
@@ -46,11 +46,11 @@ add-number : tie.Need-add-number Inv-loop μ-loop
 add-number c = record { fits = omega (arith, has-room (c .before .before .before .before .before .before .before .before .before .before .before .loop .inv .1) (c .before .before .before .before .before .before .before .before .before .before .loop-test .taken) .1) }
 
 loop-less : tie.Need-loop-less Inv-loop μ-loop
-loop-less c = 
+loop-less c =
     omega (arith, further (c .before .before .before .before .before .before .before .before .before .before .before .loop .inv .1) (c .before .before .before .before .before .before .before .before .before .before .loop-test .taken), c .before .before .before .before .before .before .before .before .before .step .ensures .1, c .before .before .before .before .before .before .before .before .before .before .loop-test .taken)
 
 loop-again : tie.Need-loop-again Inv-loop μ-loop
-loop-again c = 
+loop-again c =
     turn-on _ (c .before .before .before .before .before .before .before .before .before .before .before .loop .inv) (c .before .before .before .before .before .before .before .before .before .before .loop-test .taken) (sym (c .before .before .before .before .before .before .before .before .before .step .ensures .0) ∙ ap shownFound (c .before .before .before .before .before .before .before .found .given .1)) (c .before .before .before .before .before .before .before .before .before .step .ensures .1)
     (c .before .before .before .before .before .dispatch .ensures) (c .before .before .put-line .ensures)
 
