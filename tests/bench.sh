@@ -1,7 +1,7 @@
 #!/usr/bin/env bash
 # bench.sh KEY_PROGRAM [RUNS]
 #
-# The time of KEY_PROGRAM against oracle/key.rs: same machine, same files, best of RUNS (default 15) runs
+# The time of KEY_PROGRAM against oracle/straight.rs and oracle/key.rs: same machine, same files, best of RUNS (default 15) runs
 # that take turns. Times are of whole processes, start, reading and printing included; nothing is
 # subtracted. Not part of any timed test.
 set -euo pipefail
@@ -13,7 +13,7 @@ runs=${2:-15}
 work=$(mktemp -d)
 trap 'rm -rf "$work"' EXIT
 
-for name in key make timer; do
+for name in key straight make timer; do
     rustc --edition 2021 -O -o "$work/$name" "$here/oracle/$name.rs"
 done
 files=()
@@ -21,5 +21,8 @@ for kind in full small chain16 chain64 chain127; do
     "$work/make" 1 1 "$work/in" $kind
     files+=("$work/in/$kind-00000")
 done
-"$work/timer" "$runs" "$program" "$work/key" "${files[@]}"
+for opponent in straight key; do
+    echo "against oracle/$opponent.rs"
+    "$work/timer" "$runs" "$program" "$work/$opponent" "${files[@]}"
+done
 echo "Whole processes, best of $runs runs, nothing subtracted; ratio = program / opponent."
