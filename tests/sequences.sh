@@ -1,7 +1,7 @@
 #!/usr/bin/env bash
 # sequences.sh KEY_PROGRAM [NAME...]
 #
-# Runs KEY_PROGRAM on each list in sequences/ and compares with the key worked out by hand.
+# Runs KEY_PROGRAM on each list in sequences/ and compares with the key worked out by hand. K10 is no list: empty input gives 14.
 set -euo pipefail
 export LC_ALL=C
 [ $# -ge 1 ] || { echo "sequences.sh KEY_PROGRAM [NAME...]" >&2; exit 2; }
@@ -21,5 +21,9 @@ for name in "$@"; do
         bad=$((bad + 1))
     fi
 done
-echo "$# sequences, $bad differ"
+if [ "$("$program" < /dev/null)" != "file 14" ]; then
+    echo "K10: empty input did not give 'file 14'"
+    bad=$((bad + 1))
+fi
+echo "$# sequences and K10, $bad differ"
 [ $bad -eq 0 ]

@@ -1,14 +1,14 @@
 -- Loops that test every number below 128, or every entry of the turn order, and end at the first that fails.
-use Prim.Native.Nat.{ℕ, zero, suc, _+_, _≤_, _<_}
+use Prim.Native.Nat.{ℕ, zero, suc, _+_, _-_, _≤_, _<_}
 use mathlib.Core.Path.{_≡_, refl, sym, _∙_, ap}
-use mathlib.Core.List.{List, [], _∷_, map, map-append}
+use mathlib.Core.List.{List, [], _∷_, _++_, map, map-append}
 use mathlib.Core.Bool.{Bool, true, false, _&&_}
 use native.Mathlib.Omega.{arith}
 use native.Mathlib.Numerals.{add-one}
 use native.Mathlib.Nat.{eq-or-lt-of-le}
 use mathlib.Core.Logic.{⊎-elim}
-use lib.ListN.{length, getD, set, take, drop, length-set, drop-of-length-le}
-use lib.Seq.{drop-cons, take-suc, take-suc-set}
+use lib.ListN.{length, getD, set, take, drop, replicate, length-set, length-map, drop-of-length-le}
+use lib.Seq.{drop-cons, take-suc, append-snoc, length-take-le, set-at, take-at}
 use Rattle.rules.specs.declared.Thread.{Thread}
 use Rattle.rules.specs.Tests.{member, distinct, all, below}
 use Rattle.rules.specs.State.{limit, freeThread, threadAt, liveThreads, oneMoreIf}
@@ -137,20 +137,34 @@ all-counted ts count i full c past =
     let e : liveThreads (drop i ts) ≡ 0 = ap liveThreads (drop-of-length-le ts {i = i} (omega arith)) in
     omega (arith, c .rest)
 
--- the entries before i have been mapped
+-- the entries before i have been mapped, and the others are 0
 pub record Mapped (f : ℕ → ℕ) (l to : List ℕ) (i : ℕ) : Type 0 where
   pub full : length to ≡ 128
-  pub front : take i to ≡ map f (take i l)
+  pub exact : to ≡ map f (take i l) ++ replicate (128 - i) 0
 
-pub none-mapped : (f : ℕ → ℕ) (l to : List ℕ) → length to ≡ 128 → Mapped f l to 0
-none-mapped f l to full = record { full = full; front = refl }
+pub none-mapped : (f : ℕ → ℕ) (l : List ℕ) → Mapped f l (replicate 128 0) 0
+none-mapped f l = record { full = refl; exact = refl }
+
+mapped-length : (f : ℕ → ℕ) (l : List ℕ) (i : ℕ) → length l ≡ 128 → i ≤ 128 → length (map f (take i l)) ≡ i
+mapped-length f l i long fits = length-map (take i l) f ∙ length-take-le i l (omega arith)
 
 pub one-mapped : (f : ℕ → ℕ) (l to : List ℕ) (i v : ℕ) → length l ≡ 128 → Mapped f l to i → i < 128 → v ≡ f (getD l i 0)
     → Mapped f l (set to i v) (i + 1)
 one-mapped f l to i v long m short e =
-    let inside : i < length to = omega (arith, m .full) in
+    let front = map f (take i l) in
+    let rest : List ℕ = replicate (128 - suc i) 0 in
+    let next : 128 - i ≡ suc (128 - suc i) = omega arith in
+    let before : to ≡ front ++ (0 ∷ rest) = rw next at (m .exact) in
+    let stored : set to i v ≡ front ++ (v ∷ rest) =
+    ap (λ (k : List ℕ). set k i v) before ∙ set-at front 0 rest v i (mapped-length f l i long (omega arith)) in
     let within : i < length l = omega arith in
+    let after : map f (take (suc i) l) ≡ front ++ (v ∷ []) = rw (take-suc l i 0 within, map-append, e) refl in
     record {
       full = length-set to i v ∙ m .full;
-      front = rw (add-one, take-suc-set to i v inside, take-suc l i 0 within, map-append, m .front, e) refl;
+      exact = rw (add-one, after) (stored ∙ sym (append-snoc front v rest));
     }
+
+-- the front of what has been mapped
+pub mapped-front : (f : ℕ → ℕ) (l to : List ℕ) (i : ℕ) → length l ≡ 128 → i ≤ 128 → to ≡ map f (take i l) ++ replicate (128 - i) 0
+    → take i to ≡ map f (take i l)
+mapped-front f l to i long fits e = ap (take i) e ∙ take-at (map f (take i l)) (replicate (128 - i) 0) i (mapped-length f l i long fits)

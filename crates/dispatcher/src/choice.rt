@@ -59,7 +59,7 @@ pub fn added(links: u16, more: u8) -> u16
 }
 
 impl Machine {
-    pub fn choose(mut self, links: u16) -> Answered
+    pub(crate) fn choose(mut self, links: u16) -> Answered
         requires { ⌜ Choosable self links ⌝ }
         ensures { λ r. ⌜ Chosen self links r ⌝ }
     {

@@ -95,7 +95,7 @@ pub fn is_server(role: Role) -> bool
 }
 
 impl Machine {
-    pub fn dispatch_create(mut self, n: u8, role: Role) -> Answered
+    pub(crate) fn dispatch_create(mut self, n: u8, role: Role) -> Answered
         requires { ⌜ soundMachine self ≡ true ⌝ }
         ensures { λ r. ⌜ Answers (dispatch (Create n role) (shown self)) self r ⌝ }
     {
@@ -132,7 +132,7 @@ impl Machine {
         }
     }
 
-    pub fn dispatch_block(mut self) -> Answered
+    pub(crate) fn dispatch_block(mut self) -> Answered
         requires { ⌜ soundMachine self ≡ true ⌝ }
         ensures { λ r. ⌜ Answers (dispatch Block (shown self)) self r ⌝ }
     {
@@ -156,7 +156,7 @@ impl Machine {
         }
     }
 
-    pub fn dispatch_wake(mut self, n: u8) -> Answered
+    pub(crate) fn dispatch_wake(mut self, n: u8) -> Answered
         requires { ⌜ soundMachine self ≡ true ⌝ }
         ensures { λ r. ⌜ Answers (dispatch (Wake n) (shown self)) self r ⌝ }
     {
@@ -191,7 +191,7 @@ impl Machine {
     }
 
     // The server is Idle: the caller donates to it.
-    pub fn call_donates(mut self, server: u8, caller: u8, t: u8, count: u8) -> Answered
+    pub(crate) fn call_donates(mut self, server: u8, caller: u8, t: u8, count: u8) -> Answered
         requires { ⌜ Choosable self 0 ⌝ }
         requires { ⌜ count ≤ 128 ⌝ }
         ensures { λ r. ⌜ Settled (settle (callDonates server caller t count (shown self))) r ⌝ }
@@ -209,7 +209,7 @@ impl Machine {
     }
 
     // It is not: the caller helps it.
-    pub fn call_helps(mut self, server: u8, caller: u8) -> Answered
+    pub(crate) fn call_helps(mut self, server: u8, caller: u8) -> Answered
         requires { ⌜ Choosable self 0 ⌝ }
         ensures { λ r. ⌜ Settled (settle (callHelps server caller (shown self))) r ⌝ }
     {
@@ -219,7 +219,7 @@ impl Machine {
         self.choose(0)
     }
 
-    pub fn dispatch_call(self, server: u8) -> Answered
+    pub(crate) fn dispatch_call(self, server: u8) -> Answered
         requires { ⌜ soundMachine self ≡ true ⌝ }
         ensures { λ r. ⌜ Answers (dispatch (Call server) (shown self)) self r ⌝ }
     {
@@ -276,7 +276,7 @@ impl Machine {
     }
 
     // The server has replied. Count above 0: the caller runs. Count 0: choice.
-    pub fn reply_to(self, t: u8, count: u8, service: Service) -> Answered
+    pub(crate) fn reply_to(self, t: u8, count: u8, service: Service) -> Answered
         requires { ⌜ Choosable self 0 ⌝ }
         ensures { λ r. ⌜ Settled (settle (replyTo t count (shown self) service)) r ⌝ }
     {
@@ -302,7 +302,7 @@ impl Machine {
         }
     }
 
-    pub fn dispatch_reply(mut self) -> Answered
+    pub(crate) fn dispatch_reply(mut self) -> Answered
         requires { ⌜ soundMachine self ≡ true ⌝ }
         ensures { λ r. ⌜ Answers (dispatch Reply (shown self)) self r ⌝ }
     {
@@ -344,7 +344,7 @@ impl Machine {
         }
     }
 
-    pub fn dispatch_give(mut self, t: u8, n: u8, priority: u8, quantum: u16) -> Answered
+    pub(crate) fn dispatch_give(mut self, t: u8, n: u8, priority: u8, quantum: u16) -> Answered
         requires { ⌜ soundMachine self ≡ true ⌝ }
         ensures { λ r. ⌜ Answers (dispatch (Give t n priority quantum) (shown self)) self r ⌝ }
     {
@@ -411,7 +411,7 @@ impl Machine {
     }
 
     // The current timeslice is refilled and goes to the back, and its followers are released.
-    pub fn depleted(mut self, t: u8) -> Answered
+    pub(crate) fn depleted(mut self, t: u8) -> Answered
         requires { ⌜ Choosable self 0 ⌝ }
         requires { ⌜ t < 128 ⌝ }
         requires { ⌜ memberOf t (shown self .order) ≡ true ⌝ }
@@ -434,7 +434,7 @@ impl Machine {
         self.choose(0)
     }
 
-    pub fn dispatch_charge(mut self, units: u16) -> Answered
+    pub(crate) fn dispatch_charge(mut self, units: u16) -> Answered
         requires { ⌜ soundMachine self ≡ true ⌝ }
         ensures { λ r. ⌜ Answers (dispatch (Charge units) (shown self)) self r ⌝ }
     {
@@ -485,7 +485,7 @@ impl Machine {
     }
 
     // First the walk from the thread named; then it is Ready, and those that waited at the walk's end are released.
-    pub fn abort_walks(mut self, n: u8, hold: Hold) -> Answered
+    pub(crate) fn abort_walks(mut self, n: u8, hold: Hold) -> Answered
         requires { ⌜ Choosable self 0 ⌝ }
         requires { ⌜ hold ≡ holdAt (self .threads) n ⌝ }
         ensures { λ r. ⌜ Settled (settle (abort n (shown self))) r ⌝ }
@@ -519,7 +519,7 @@ impl Machine {
         self.choose(links)
     }
 
-    pub fn dispatch_abort(self, n: u8) -> Answered
+    pub(crate) fn dispatch_abort(self, n: u8) -> Answered
         requires { ⌜ soundMachine self ≡ true ⌝ }
         ensures { λ r. ⌜ Answers (dispatch (Abort n) (shown self)) self r ⌝ }
     {

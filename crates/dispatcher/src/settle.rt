@@ -15,7 +15,7 @@ use rules::Running;
 
 impl Machine {
     // A timeslice joined Queue: choice if nothing runs or it stands above the current.
-    pub fn overtaken(self, q: u8) -> Answered
+    pub(crate) fn overtaken(self, q: u8) -> Answered
         requires { ⌜ Choosable self 0 ⌝ }
         ensures { λ r. ⌜ Settled (settleIf (overtakes (shown self) (some q)) (before self 0)) r ⌝ }
     {
@@ -43,7 +43,7 @@ impl Machine {
     }
 
     // Those On a thread are released.
-    pub fn waiters_released(mut self, n: u8) -> Answered
+    pub(crate) fn waiters_released(mut self, n: u8) -> Answered
         requires { ⌜ Choosable self 0 ⌝ }
         ensures { λ r. ⌜ Settled (settle (releases n (shown self))) r ⌝ }
     {

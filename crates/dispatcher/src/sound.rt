@@ -1,9 +1,9 @@
 // Document 01, "A sound machine": the test, clause by clause.
 ghost use mathlib.Core.Path.{_≡_};
-ghost use mathlib.Core.List.{map};
+ghost use mathlib.Core.List.{map, _++_};
 ghost use mathlib.Core.Bool.{_&&_, _||_};
-ghost use Prim.Native.Nat.{_≤_};
-ghost use lib.ListN.{getD, take, drop};
+ghost use Prim.Native.Nat.{_≤_, _-_};
+ghost use lib.ListN.{getD, take, drop, replicate};
 ghost use lib.Dec.{ltb, eqb};
 ghost use Rattle.rules.specs.Tests.{member as memberOf, distinct, all, below, agree as agreeOf, implies as impliesOf};
 ghost use Rattle.rules.specs.State.{limit, threadAt, holdAt, serviceAt, liveAt, sliceAt, ownerAt, placeAt, oneMoreIf, liveThreads, nothingRuns};
@@ -304,10 +304,10 @@ pub fn owners_live(
     true
 }
 
-// The owners in turn order.
+// The owners in turn order, then 0.
 pub fn owners(timeslices: [Timeslice; 128], order: [u8; 128], live: u8) -> [u8; 128]
     requires { ⌜ live ≤ 128 ⌝ }
-    ensures { λ r. ⌜ take live r ≡ map (λ t. ownerAt (map sliceOf timeslices) t) (take live order) ⌝ }
+    ensures { λ r. ⌜ r ≡ map (λ t. ownerAt (map sliceOf timeslices) t) (take live order) ++ replicate (128 - live) 0 ⌝ }
 {
     let mut found: [u8; 128] = [0; 128];
     let n = index(live);

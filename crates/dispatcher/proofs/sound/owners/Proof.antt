@@ -1,7 +1,7 @@
 use Prim.Native.Nat.{_-_}
 use native.Mathlib.Omega.{arith}
 use Prim.Native.Nat.{_≤_}
-use mathlib.Core.Path.{_≡_, refl}
+use mathlib.Core.Path.{_≡_}
 use mathlib.Core.List.{map}
 use Rattle.rules.specs.State.{Slice, ownerAt}
 use Rattle.dispatcher.specs.Shown.{sliceOf}
@@ -20,7 +20,7 @@ index-requires : tie.Need-index-requires Inv-loop μ-loop
 index-requires c κs = tt
 
 loop-holds : tie.Need-loop-holds Inv-loop μ-loop
-loop-holds c = (c .index .ensures, omega arith, none-mapped _ _ _ refl)
+loop-holds c = (c .index .ensures, omega arith, none-mapped _ _)
 
 array-read-t : tie.Need-array-read-t Inv-loop μ-loop
 array-read-t c = omega (arith, c .before .before .before .pre, c .before .loop .inv .0)
@@ -45,7 +45,7 @@ loop-again c =
     (v .0, omega arith, one-mapped _ _ _ _ _ (s .good .1 .0 .1 .0 .1) (v .2) (omega (arith, s .pre)) owner)
 
 returns : tie.Need-returns Inv-loop μ-loop
-returns c = let v = c .before .loop .inv in let e : c .before .loop .i ≡ c .before .before .before .args .live = omega (arith, v .0, v .1) in rw e at (v .2 .front)
+returns c = let v = c .before .loop .inv in let e : c .before .loop .i ≡ c .before .before .before .args .live = omega (arith, v .0, v .1) in rw e at (v .2 .exact)
 
 pub owners-spec : {M : Type 1} → statement M
 owners-spec =

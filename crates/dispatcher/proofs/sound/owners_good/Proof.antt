@@ -1,6 +1,7 @@
 use mathlib.Core.Path.{_∙_, ap}
 use Rattle.rules.specs.Tests.{distinct}
 use Rattle.dispatcher.proofs.Clauses.{both-test}
+use Rattle.dispatcher.proofs.Loops.{mapped-front}
 use borrow.Author.Needs.{needs}
 use Rattle.dispatcher.proofs.sound.owners_good.Statement.{statement}
 use Rattle.dispatcher.proofs.sound.owners_good.Tie as tie
@@ -18,7 +19,10 @@ both-requires : tie.Need-both-requires
 both-requires c κs = search needs
 
 returns : tie.Need-returns
-returns c = both-test _ _ _ _ _ (c .both .ensures) (c .before .before .before .owners-live .ensures) (c .before .listed-once .ensures ∙ ap distinct (c .before .before .owners .ensures))
+returns c =
+    let s = c .before .before .before .before in
+    let front = mapped-front _ (s .args .order) _ (s .args .live) (s .good .1 .1 .0 .1 .0 .1) (s .pre) (c .before .before .owners .ensures) in
+    both-test _ _ _ _ _ (c .both .ensures) (c .before .before .before .owners-live .ensures) (c .before .listed-once .ensures ∙ ap distinct front)
 
 pub owners-good-spec : {M : Type 1} → statement M
 owners-good-spec =
