@@ -17,4 +17,5 @@ pub mod Clauses
 pub mod Loops
 pub mod Whole
 pub mod Offering
+pub mod OneForm
 pub mod Runs
