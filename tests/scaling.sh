@@ -1,0 +1,23 @@
+#!/usr/bin/env bash
+# scaling.sh KEY_PROGRAM [RUNS]
+#
+# How the cost of an event grows with the number of threads and timeslices: files of about 65,536 bytes from oracle/grow.rs, timed as
+# in bench.sh, beside oracle/straight.rs. Not part of any timed test.
+set -euo pipefail
+export LC_ALL=C
+[ $# -ge 1 ] || { echo "scaling.sh KEY_PROGRAM [RUNS]" >&2; exit 2; }
+here=$(cd "$(dirname "$0")" && pwd)
+program=$(realpath "$1")
+runs=${2:-15}
+work=$(mktemp -d)
+trap 'rm -rf "$work"' EXIT
+
+for name in straight grow timer; do
+    rustc --edition 2021 -O -o "$work/$name" "$here/oracle/$name.rs"
+done
+files=()
+for n in 2 8 32 64 128; do
+    "$work/grow" $n > "$work/threads$n"
+    files+=("$work/threads$n")
+done
+"$work/timer" "$runs" "$program" "$work/straight" "${files[@]}"
