@@ -26,10 +26,9 @@ pub fn put_lines(file: &[u8], out: &mut [u8]) -> usize
             return at;
         };
         let answered = machine.dispatch(event);
-        let next = answered.machine;
-        let running = next.running;
+        machine = answered.machine;
+        let running = machine.running;
         at = put_line(out, at, number, answered.refusal, running, answered.links);
-        machine = next;
         offset = read.offset;
         number += 1;
     }
