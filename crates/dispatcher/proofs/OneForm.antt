@@ -43,15 +43,15 @@ stored-of : (m : Machine) → stored m ≡ true → Stored m
 unfolding stored
 stored-of m e =
     let z =
-        and3 (eqb (m .«live_threads») (liveThreads (m .threads))) (leb (m .«live_timeslices») limit)
-        (below limit (λ i. ltb i (m .«live_timeslices») || eqb (getD (m .order) i 0) 0)) e in
+    and3 (eqb (m .«live_threads») (liveThreads (m .threads))) (leb (m .«live_timeslices») limit)
+    (below limit (λ i. ltb i (m .«live_timeslices») || eqb (getD (m .order) i 0) 0)) e in
     record {
       counted = eqb-true (m .«live_threads») (liveThreads (m .threads)) (z .0);
       fits = leb-true (m .«live_timeslices») limit (z .1);
       clear =
-        λ i h late.
-        eqb-true (getD (m .order) i 0) 0
-        (rw late at (below-at (λ j. ltb j (m .«live_timeslices») || eqb (getD (m .order) j 0) 0) limit (z .2) i h))
+          λ i h late.
+          eqb-true (getD (m .order) i 0) 0
+          (rw late at (below-at (λ j. ltb j (m .«live_timeslices») || eqb (getD (m .order) j 0) 0) limit (z .2) i h));
     }
 
 -- two turn orders of the same length with the same front, and 0 behind it
@@ -78,9 +78,9 @@ one-form m n full full′ h h′ same =
     let threads = ap (λ (s : State). s .threads) same in
     let front = ap (λ (s : State). s .order) same in
     let live : m .«live_timeslices» ≡ n .«live_timeslices» =
-        sym (length-take-le (m .«live_timeslices») (m .order) (omega (arith, full, x .fits)))
-        ∙ ap length front
-        ∙ length-take-le (n .«live_timeslices») (n .order) (omega (arith, full′, y .fits)) in
+    sym (length-take-le (m .«live_timeslices») (m .order) (omega (arith, full, x .fits)))
+    ∙ ap length front
+    ∙ length-take-le (n .«live_timeslices») (n .order) (omega (arith, full′, y .fits)) in
     let timeslices = same-timeslices (m .timeslices) (n .timeslices) (ap (λ (s : State). s .slices) same) (ap (λ (s : State). s .places) same) in
     let order = same-order m n x y full full′ live front in
     let counted : m .«live_threads» ≡ n .«live_threads» = x .counted ∙ ap liveThreads threads ∙ sym (y .counted) in
@@ -90,5 +90,5 @@ one-form m n full full′ h h′ same =
       order = order i;
       «live_threads» = counted i;
       «live_timeslices» = live i;
-      running = same i .running
+      running = same i .running;
     }
