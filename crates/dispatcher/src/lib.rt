@@ -7,6 +7,7 @@ mod events;
 mod methods;
 mod numbers;
 mod order;
+mod records;
 mod release;
 mod settle;
 mod sound;

@@ -19,8 +19,8 @@ use Rattle.dispatcher.proofs.Machine.dispatch_call.Reads as reads
 use Rattle.dispatcher.proofs.Machine.dispatch_call.Lts as lts
 use Rattle.dispatcher.proofs.Machine.call_donates.Reads as call-donates-reads
 use Rattle.dispatcher.proofs.Machine.call_helps.Reads as call-helps-reads
-use Rattle.dispatcher.proofs.events.is_idle.Reads as is-idle-reads
-use Rattle.dispatcher.proofs.events.is_server.Reads as is-server-reads
+use Rattle.dispatcher.proofs.records.is_idle.Reads as is-idle-reads
+use Rattle.dispatcher.proofs.records.is_server.Reads as is-server-reads
 use Rattle.dispatcher.proofs.numbers.index.Reads as index-reads
 
 enum-told : tie.Need-enum-told

@@ -16,7 +16,7 @@ use Rattle.dispatcher.proofs.Machine.dispatch_create.Statement.{stateme
 use Rattle.dispatcher.proofs.Machine.dispatch_create.Tie as tie
 use Rattle.dispatcher.proofs.Machine.dispatch_create.Reads as reads
 use Rattle.dispatcher.proofs.Machine.dispatch_create.Lts as lts
-use Rattle.dispatcher.proofs.events.starts_as.Reads as starts-as-reads
+use Rattle.dispatcher.proofs.events.creating.starts_as.Reads as starts-as-reads
 use Rattle.dispatcher.proofs.numbers.index.Reads as index-reads
 
 returns : tie.Need-returns

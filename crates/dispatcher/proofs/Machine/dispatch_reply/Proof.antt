@@ -21,7 +21,7 @@ use Rattle.dispatcher.proofs.Machine.dispatch_reply.Tie as tie
 use Rattle.dispatcher.proofs.Machine.dispatch_reply.Reads as reads
 use Rattle.dispatcher.proofs.Machine.dispatch_reply.Lts as lts
 use Rattle.dispatcher.proofs.Machine.reply_to.Reads as reply-to-reads
-use Rattle.dispatcher.proofs.events.is_server.Reads as is-server-reads
+use Rattle.dispatcher.proofs.records.is_server.Reads as is-server-reads
 use Rattle.dispatcher.proofs.numbers.index.Reads as index-reads
 use Rattle.dispatcher.proofs.threads.replied.Reads as replied-reads
 

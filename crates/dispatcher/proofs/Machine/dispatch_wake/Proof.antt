@@ -19,7 +19,7 @@ use Rattle.dispatcher.proofs.Machine.dispatch_wake.Tie as tie
 use Rattle.dispatcher.proofs.Machine.dispatch_wake.Reads as reads
 use Rattle.dispatcher.proofs.Machine.dispatch_wake.Lts as lts
 use Rattle.dispatcher.proofs.Machine.waiters_released.Reads as waiters-released-reads
-use Rattle.dispatcher.proofs.events.is_blocked.Reads as is-blocked-reads
+use Rattle.dispatcher.proofs.records.is_blocked.Reads as is-blocked-reads
 use Rattle.dispatcher.proofs.numbers.index.Reads as index-reads
 use Rattle.dispatcher.proofs.threads.with_hold.Reads as with-hold-reads
 

@@ -1,0 +1,60 @@
+use Prim.Native.Nat.{_-_}
+use native.Mathlib.Omega.{arith}
+use Rattle.dispatcher.proofs.Along.{Along, begin}
+use Rattle.dispatcher.proofs.Loops.{all-more, all-fails, all-passed}
+use Rattle.rules.specs.Tests.{all}
+use mathlib.Core.Path.{refl}
+use lib.Dec.{ltb}
+use borrow.Author.Tests.{lt-ltb, le-ltb}
+use Rattle.rules.specs.State.{limit}
+use Rattle.dispatcher.proofs.sound.turn_order.numbers_fit.Statement.{statement}
+use Rattle.dispatcher.proofs.sound.turn_order.numbers_fit.Tie as tie
+
+abbrev Inv-loop : tie.InvT-loop
+Inv-loop live order n i₀ i = Along (λ l. all (λ t. ltb t limit) l) live order n i
+
+abbrev μ-loop : tie.MeasureT-loop
+μ-loop live order n i₀ i = live - i
+
+index-requires : tie.Need-index-requires Inv-loop μ-loop
+index-requires c κs = tt
+
+loop-holds : tie.Need-loop-holds Inv-loop μ-loop
+loop-holds c = begin _ _ _ _ (c .index .ensures)
+
+array-read-t : tie.Need-array-read-t Inv-loop μ-loop
+array-read-t c = omega (arith, c .before .before .before .pre)
+
+add-i : tie.Need-add-i Inv-loop μ-loop
+add-i c = omega (arith, c .before .before .before .before .pre)
+
+loop-less : tie.Need-loop-less Inv-loop μ-loop
+loop-less c = omega arith
+
+loop-again : tie.Need-loop-again Inv-loop μ-loop
+loop-again c =
+    let s = c .before .before .before .before in
+    all-more _ _ _ (s .good .0 .1 .0 .1) (s .pre) _ _ _ (c .before .before .loop .inv) (c .before .loop-test .taken) refl (lt-ltb _ _ (c .if1 .taken))
+
+returns : tie.Need-returns Inv-loop μ-loop
+returns c =
+    let s = c .before .before .before .before in
+    all-fails _ _ _ (s .good .0 .1 .0 .1) (s .pre) _ _ _ (c .before .before .loop .inv) (c .before .loop-test .taken) refl (le-ltb _ _ (c .if1 .left))
+
+returns-2 : tie.Need-returns-2 Inv-loop μ-loop
+returns-2 c = let s = c .before .before .before in all-passed _ _ _ (s .good .0 .1 .0 .1) (s .pre) _ _ (c .before .loop .inv) (c .loop-test .left)
+
+pub numbers-fit-spec : {M : Type 1} → statement M
+numbers-fit-spec =
+    tie.close
+    (tie.spec
+    Inv-loop
+    μ-loop
+    index-requires
+    loop-holds
+    array-read-t
+    add-i
+    loop-less
+    loop-again
+    returns
+    returns-2)

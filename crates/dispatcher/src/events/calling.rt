@@ -1,0 +1,176 @@
+// Document 01, "Events" and "Refusals, operation by operation": Call and Reply.
+ghost use mathlib.Core.Path.{_≡_};
+ghost use mathlib.Core.Bool.{true};
+ghost use Prim.Native.Nat.{_≤_};
+ghost use Rattle.dispatcher.specs.Choosing.{Choosable, Settled};
+ghost use Rattle.dispatcher.specs.Shown.{soundMachine, shown};
+ghost use Rattle.rules.specs.declared.Event.the-variants.{Call, Reply};
+ghost use Rattle.rules.specs.Events.{dispatch, settle, callDonates, callHelps, replyTo};
+ghost use Rattle.dispatcher.specs.Promise.{Answers};
+use crate::Answered;
+use crate::Machine;
+use crate::numbers::index;
+use crate::records::is_idle;
+use crate::records::is_server;
+use crate::threads::donated;
+use crate::threads::replied;
+use crate::threads::with_hold;
+use rules::Hold;
+use rules::Running;
+use rules::Service;
+
+impl Machine {
+    // The server is Idle: the caller donates to it.
+    pub(crate) fn call_donates(mut self, server: u8, caller: u8, t: u8, count: u8) -> Answered
+        requires { ⌜ Choosable self 0 ⌝ }
+        requires { ⌜ count ≤ 128 ⌝ }
+        ensures { λ r. ⌜ Settled (settle (callDonates server caller t count (shown self))) r ⌝ }
+    {
+        let threads = self.threads;
+        let next = donated(threads, caller, server);
+        self.threads = next;
+        let running = Running::Runs {
+            thread: server,
+            timeslice: t,
+            count: count + 1,
+        };
+        let machine = Machine { running, ..self };
+        machine.waiters_released(server)
+    }
+
+    // It is not: the caller helps it.
+    pub(crate) fn call_helps(mut self, server: u8, caller: u8) -> Answered
+        requires { ⌜ Choosable self 0 ⌝ }
+        ensures { λ r. ⌜ Settled (settle (callHelps server caller (shown self))) r ⌝ }
+    {
+        let threads = self.threads;
+        let next = with_hold(threads, caller, Hold::Helping(server));
+        self.threads = next;
+        self.choose(0)
+    }
+
+    pub(crate) fn dispatch_call(self, server: u8) -> Answered
+        requires { ⌜ soundMachine self ≡ true ⌝ }
+        ensures { λ r. ⌜ Answers (dispatch (Call server) (shown self)) self r ⌝ }
+    {
+        let running = self.running;
+        match running {
+            Running::Nothing => Answered {
+                machine: self,
+                refusal: 5,
+                links: 0,
+            },
+            Running::Runs {
+                thread: caller,
+                timeslice: t,
+                count,
+            } => {
+                if 127 < server {
+                    return Answered {
+                        machine: self,
+                        refusal: 2,
+                        links: 0,
+                    };
+                }
+                let k = index(server);
+                let thread = self.threads[k];
+                if !thread.live {
+                    return Answered {
+                        machine: self,
+                        refusal: 4,
+                        links: 0,
+                    };
+                }
+                let role = thread.role;
+                if !is_server(role) {
+                    return Answered {
+                        machine: self,
+                        refusal: 6,
+                        links: 0,
+                    };
+                }
+                if server == caller {
+                    return Answered {
+                        machine: self,
+                        refusal: 7,
+                        links: 0,
+                    };
+                }
+                let hold = thread.hold;
+                if is_idle(hold) {
+                    return self.call_donates(server, caller, t, count);
+                }
+                self.call_helps(server, caller)
+            }
+        }
+    }
+
+    // The server has replied. Count above 0: the caller runs. Count 0: choice.
+    pub(crate) fn reply_to(self, t: u8, count: u8, service: Service) -> Answered
+        requires { ⌜ Choosable self 0 ⌝ }
+        ensures { λ r. ⌜ Settled (settle (replyTo t count (shown self) service)) r ⌝ }
+    {
+        match service {
+            Service::Nobody => self.choose(0),
+            Service::Serving(caller) => {
+                if 0 < count {
+                    let running = Running::Runs {
+                        thread: caller,
+                        timeslice: t,
+                        count: count - 1,
+                    };
+                    let machine = Machine { running, ..self };
+                    return Answered {
+                        machine,
+                        refusal: 0,
+                        links: 0,
+                    };
+                }
+                self.choose(0)
+            }
+            Service::Orphan => self.choose(0),
+        }
+    }
+
+    pub(crate) fn dispatch_reply(mut self) -> Answered
+        requires { ⌜ soundMachine self ≡ true ⌝ }
+        ensures { λ r. ⌜ Answers (dispatch Reply (shown self)) self r ⌝ }
+    {
+        let running = self.running;
+        match running {
+            Running::Nothing => Answered {
+                machine: self,
+                refusal: 5,
+                links: 0,
+            },
+            Running::Runs {
+                thread: server,
+                timeslice: t,
+                count,
+            } => {
+                let k = index(server);
+                if 128 <= k {
+                    return Answered {
+                        machine: self,
+                        refusal: 8,
+                        links: 0,
+                    };
+                }
+                let thread = self.threads[k];
+                let role = thread.role;
+                if !is_server(role) {
+                    return Answered {
+                        machine: self,
+                        refusal: 8,
+                        links: 0,
+                    };
+                }
+                let service = thread.service;
+                let threads = self.threads;
+                let next = replied(threads, server, service);
+                self.threads = next;
+                self.reply_to(t, count, service)
+            }
+        }
+    }
+}

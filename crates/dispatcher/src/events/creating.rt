@@ -1,0 +1,134 @@
+// Document 01, "Events" and "Refusals, operation by operation": Create and Give.
+ghost use mathlib.Core.Path.{_≡_};
+ghost use mathlib.Core.Bool.{true};
+ghost use Rattle.dispatcher.specs.Shown.{soundMachine, shown};
+ghost use Rattle.rules.specs.declared.Event.the-variants.{Create, Give};
+ghost use Rattle.rules.specs.Threads.{startsAs};
+ghost use Rattle.rules.specs.Events.{dispatch};
+ghost use Rattle.dispatcher.specs.Promise.{Answers};
+use crate::Answered;
+use crate::Machine;
+use crate::numbers::index;
+use crate::order::member;
+use crate::order::owns_one;
+use rules::Hold;
+use rules::Place;
+use rules::Role;
+use rules::Service;
+use rules::Thread;
+use rules::Timeslice;
+
+// A client starts Ready, a server Idle.
+pub fn starts_as(role: Role) -> Hold
+    ensures { λ r. ⌜ r ≡ startsAs role ⌝ }
+{
+    match role {
+        Role::Client => Hold::Ready,
+        Role::Server => Hold::Idle,
+    }
+}
+
+impl Machine {
+    pub(crate) fn dispatch_create(mut self, n: u8, role: Role) -> Answered
+        requires { ⌜ soundMachine self ≡ true ⌝ }
+        ensures { λ r. ⌜ Answers (dispatch (Create n role) (shown self)) self r ⌝ }
+    {
+        if 127 < n {
+            return Answered {
+                machine: self,
+                refusal: 2,
+                links: 0,
+            };
+        }
+        let k = index(n);
+        let old = self.threads[k];
+        if old.live {
+            return Answered {
+                machine: self,
+                refusal: 3,
+                links: 0,
+            };
+        }
+        let hold = starts_as(role);
+        let new = Thread {
+            live: true,
+            role,
+            hold,
+            service: Service::Nobody,
+        };
+        self.threads[k] = new;
+        let live = self.live_threads;
+        self.live_threads = live + 1;
+        Answered {
+            machine: self,
+            refusal: 0,
+            links: 0,
+        }
+    }
+
+    pub(crate) fn dispatch_give(mut self, t: u8, n: u8, priority: u8, quantum: u16) -> Answered
+        requires { ⌜ soundMachine self ≡ true ⌝ }
+        ensures { λ r. ⌜ Answers (dispatch (Give t n priority quantum) (shown self)) self r ⌝ }
+    {
+        if 127 < t {
+            return Answered {
+                machine: self,
+                refusal: 2,
+                links: 0,
+            };
+        }
+        if 127 < n {
+            return Answered {
+                machine: self,
+                refusal: 2,
+                links: 0,
+            };
+        }
+        let order = self.order;
+        let live = self.live_timeslices;
+        if member(order, live, t) {
+            return Answered {
+                machine: self,
+                refusal: 3,
+                links: 0,
+            };
+        }
+        let k = index(n);
+        let thread = self.threads[k];
+        if !thread.live {
+            return Answered {
+                machine: self,
+                refusal: 4,
+                links: 0,
+            };
+        }
+        let timeslices = self.timeslices;
+        if owns_one(timeslices, order, live, n) {
+            return Answered {
+                machine: self,
+                refusal: 13,
+                links: 0,
+            };
+        }
+        if quantum == 0 {
+            return Answered {
+                machine: self,
+                refusal: 12,
+                links: 0,
+            };
+        }
+        let j = index(t);
+        let new = Timeslice {
+            owner: n,
+            priority,
+            quantum,
+            left: quantum,
+            place: Place::Queue,
+        };
+        self.timeslices[j] = new;
+        let i = index(live);
+        self.order[i] = t;
+        self.live_timeslices = live + 1;
+        self.overtaken(t)
+    }
+}
