@@ -66,28 +66,6 @@ module _ (f : ℕ → Bool) (live : ℕ) (order : List ℕ) (full : length order
   unfolding all
   all-passed n i a past = out (λ l. all f l) live order n i a past
 
--- a loop from one entry on: what is left to test gives the whole
-module _ {A : Type 0} (f : List ℕ → A) (live : ℕ) (order : List ℕ) (from : ℕ) where
-  pub record After (n i : ℕ) : Type 0 where
-    pub last : n ≡ live
-    pub inside : i ≤ live
-    pub rest : f (drop i (take live order)) ≡ f (drop from (take live order))
-
-  pub begin-at : (n : ℕ) → n ≡ live → from ≤ live → After n from
-  begin-at n e h = record { last = e; inside = h; rest = refl }
-
-  pub here-at : (n i : ℕ) → length order ≡ 128 → live ≤ 128 → After n i → i < n
-      → f (getD order i 0 ∷ drop (suc i) (take live order)) ≡ f (drop from (take live order))
-  here-at n i full fits a short = sym (ap f (turn order live i full fits (omega (arith, a .last)))) ∙ a .rest
-
-  pub next-at : (n i : ℕ) → length order ≡ 128 → live ≤ 128 → After n i → i < n
-      → f (drop (suc i) (take live order)) ≡ f (getD order i 0 ∷ drop (suc i) (take live order)) → After n (i + 1)
-  next-at n i full fits a short e =
-      record { last = a .last; inside = omega (arith, a .last); rest = rw add-one (e ∙ here-at n i full fits a short) }
-
-  pub out-at : (n i : ℕ) → After n i → n ≤ i → f [] ≡ f (drop from (take live order))
-  out-at n i a past = let e : i ≡ live = omega (arith, a .last, a .inside) in rw (e, turns-out order live) at (a .rest)
-
 -- "once each": no entry stands again after itself
 module _ (live : ℕ) (order : List ℕ) (full : length order ≡ 128) (fits : live ≤ 128) where
   pub once-more : (n i : ℕ) (r : Bool) → Along (λ l. distinct l) live order n i → i < n
