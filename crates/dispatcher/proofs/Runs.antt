@@ -79,13 +79,13 @@ pub code-equal : {m : Machine} {es : List Event} {rs : List Answered} → Runs m
 code-equal {m} {es} x f h = as-run x f h ∙ equal-from es (shown m) f (shows-sound m h)
 
 -- from `Machine::empty()`
-empty-sound : soundMachine emptyMachine ≡ true
+pub empty-machine-sound : soundMachine emptyMachine ≡ true
 unfolding soundMachine stored computing
-empty-sound = refl
+empty-machine-sound = refl
 
 pub code-equal-empty : {es : List Event} {rs : List Answered} → Runs emptyMachine es rs → allFit es ≡ true
     → map codeSeen rs ≡ map plainSeen (plainRun es emptyPlain)
-code-equal-empty {es} x f = code-equal x f empty-sound ∙ ap (λ (p : Plain). map plainSeen (plainRun es p)) shows-empty
+code-equal-empty {es} x f = code-equal x f empty-machine-sound ∙ ap (λ (p : Plain). map plainSeen (plainRun es p)) shows-empty
   where
     shows-empty : forget (shown emptyMachine) ≡ emptyPlain
     shows-empty = refl

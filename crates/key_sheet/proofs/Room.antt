@@ -14,7 +14,7 @@ use Rattle.rules.specs.Sound.{sound}
 use Rattle.rules.specs.Lists.{run}
 use Rattle.rules.specs.EventFile.{recordOf, recordsOf, fileOf, lengthField, headRefusal, recordsIn, isNone, fileRefusalAfter, fileRefusal, eventsOf}
 use Rattle.rules.specs.Key.{keyAfter, key}
-use Rattle.rules.proofs.Computing.{computing}
+use Rattle.rules.proofs.Demands.{empty-sound}
 use Rattle.rules.proofs.Soundness.Places.{sound-of}
 use Rattle.event_file.proofs.Accepting.{accepted}
 use Rattle.event_file.proofs.ReadThenWritten.{Bytes}
@@ -50,10 +50,6 @@ run-length : (es : List Event) (s : State) → length (run es s) ≡ length es
 unfolding run
 run-length [] s = refl
 run-length (e ∷ es) s = ap suc (run-length es (offer e s .state))
-
-pub empty-sound : sound empty ≡ true
-unfolding computing
-empty-sound = refl
 
 -- a file is refused with 14, 15 or 16
 refused-small : (n : ℕ) (file : List ℕ) → n ≤ 16 → fileRefusalAfter n file ≤ 16

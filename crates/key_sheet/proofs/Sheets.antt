@@ -17,9 +17,8 @@ use Rattle.rules.specs.Lists.{fits, allFit, run}
 use Rattle.rules.specs.EventFile.{recordAt, joined, eventsAfter, fileRefusal, eventsOf, event, Stepped, steppedTo, stepped}
 use Rattle.rules.specs.Key.{lines}
 use Rattle.rules.proofs.Basics.Views.{and-true-left, and-true-right, and-true-both}
-use Rattle.rules.proofs.Computing.{computing}
 use Rattle.rules.proofs.Agreement.{offer-sound}
-use Rattle.rules.proofs.Demands.{accepted-sound}
+use Rattle.rules.proofs.Demands.{accepted-sound, empty-sound}
 use Rattle.event_file.proofs.Reading.{eventsAfter-drop, record-inside}
 use Rattle.event_file.proofs.Cursor.{stepped-at}
 use Rattle.event_file.proofs.Accepting.{accepted}
@@ -33,11 +32,12 @@ use Rattle.dispatcher.specs.declared.Machine.{Machine}
 use Rattle.dispatcher.specs.declared.Answered.{Answered}
 use Rattle.dispatcher.specs.Shown.{shown, stored, soundMachine, emptyMachine}
 use Rattle.dispatcher.specs.Promise.{Answers}
+use Rattle.dispatcher.proofs.Runs.{empty-machine-sound}
 use Rattle.key_sheet.specs.Put.{Put}
 use Rattle.key_sheet.specs.Line.{lineBytes, linesOf}
 use Rattle.key_sheet.proofs.Puts.{_then_, put-none, up-to-end, reading}
 use Rattle.key_sheet.proofs.Lines.{next-line, no-lines}
-use Rattle.key_sheet.proofs.Room.{events-most, empty-sound}
+use Rattle.key_sheet.proofs.Room.{events-most}
 
 -- the buffer was `before`; the next event is read at `offset`, has this number and goes to the machine s; its line goes to `at`
 pub record Going (file before now : List ℕ) (at offset number : ℕ) (s : State) : Type 0 where
@@ -164,13 +164,10 @@ done {file} {before} {now} {at} {offset} {number} {s} g h =
 abbrev pub GoingOn : List ℕ → List ℕ → List ℕ → ℕ → ℕ → ℕ → Machine → Type 0
 GoingOn file before now at offset number m = (stored m ≡ true) × Going file before now at offset number (shown m)
 
-empty-stored : stored emptyMachine ≡ true
-unfolding stored computing
-empty-stored = refl
-
 pub begin-on : (file before : List ℕ) (m : Machine) → m ≡ emptyMachine → Bytes file → fileRefusal file ≡ 0 → 16 * length file ≤ length before
     → GoingOn file before before 0 5 1 m
-begin-on file before m e bytes h room = rw e (empty-stored, begin file before bytes h room)
+unfolding soundMachine
+begin-on file before m e bytes h room = rw e (and-true-left (stored emptyMachine) (sound (shown emptyMachine)) empty-machine-sound, begin file before bytes h room)
 
 -- the machine is one that an event may be given to
 pub still-sound : {file before now : List ℕ} {at offset number : ℕ} (m : Machine) → GoingOn file before now at offset number m → soundMachine m ≡ true

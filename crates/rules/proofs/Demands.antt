@@ -52,7 +52,7 @@ equal-from (e ∷ es) s f h =
     λ i. seen-same e s a i ∷ (rest ∙ ap (λ (p : Plain). map plainSeen (plainRun es p)) (a .plain)) i
 
 -- from the empty machine
-empty-sound : sound empty ≡ true
+pub empty-sound : sound empty ≡ true
 unfolding computing
 empty-sound = refl
 
