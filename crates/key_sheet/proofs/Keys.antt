@@ -1,17 +1,17 @@
 -- The key of a file by cases, and the buffer that holds it.
-use Prim.Native.Nat.{ℕ, zero, suc, _+_, _*_, _≤_, _<_}
+use Prim.Native.Nat.{ℕ, zero, suc, _*_, _≤_, _<_}
 use native.Mathlib.Omega.{arith}
-use mathlib.Core.Path.{_≡_, refl, sym, ap, _∙_}
-use mathlib.Core.List.{List, _++_}
+use mathlib.Core.Path.{_≡_, refl}
+use mathlib.Core.List.{List}
 use mathlib.Core.Bool.{true, false}
-use lib.ListN.{length, drop}
+use lib.ListN.{length}
 use borrow.Author.Tests.{lt-ltb, le-ltb}
 use Rattle.rules.specs.EventFile.{fileRefusal}
 use Rattle.rules.specs.Key.{fileLine, keyAfter, key}
 use Rattle.key_sheet.specs.Put.{Put}
 use Rattle.key_sheet.specs.Line.{linesOf}
 use Rattle.key_sheet.specs.Room.{roomAfter, room}
-use Rattle.key_sheet.specs.Sheet.{Filled, filled}
+use Rattle.key_sheet.specs.Sheet.{filled}
 use Rattle.key_sheet.proofs.Puts.{reading}
 
 -- a refused file
