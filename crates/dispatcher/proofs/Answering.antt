@@ -1,14 +1,13 @@
 -- The answer of an event: refused, or accepted and settled.
 use Prim.Native.Nat.{ℕ, suc}
-use mathlib.Core.Path.{_≡_, refl, sym, _∙_, ap, subst}
-use mathlib.Core.Bool.{Bool, true, _&&_}
+use mathlib.Core.Path.{_≡_, refl, sym, _∙_, subst}
+use mathlib.Core.Bool.{true}
 use Rattle.rules.specs.declared.Event.{Event}
 use Rattle.rules.specs.State.{State, forget}
 use Rattle.rules.specs.Sound.{sound}
 use Rattle.rules.specs.Refusals.{refusal}
-use Rattle.rules.specs.Choice.{Outcome, choose}
+use Rattle.rules.specs.Choice.{choose}
 use Rattle.rules.specs.Events.{Midway, midway, settle, dispatch, dispatchAfter}
-use Rattle.rules.specs.Events as events
 use Rattle.dispatcher.specs.declared.Machine.{Machine}
 use Rattle.dispatcher.specs.declared.Answered.{Answered}
 use Rattle.dispatcher.specs.Shown.{shown, stored, soundMachine}

@@ -9,8 +9,7 @@ use lib.ListN.{length}
 use lib.Dec.{ltb, eqb}
 use borrow.Author.Tests.{ltb-true, lt-ltb, eqb-true, eqb-false, eq-eqb, ne-eqb, not-true}
 use Rattle.rules.specs.declared.Chain.{Chain}
-use Rattle.rules.specs.declared.Running.{Running}
-use Rattle.rules.specs.declared.Running.the-variants.{Nothing, Runs}
+use Rattle.rules.specs.declared.Running.the-variants.{Runs}
 use Rattle.rules.specs.Tests.{member, distinct, all}
 use Rattle.rules.specs.State.{Slice, State, forget, limit, ownerAt, priorityAt, oneMoreIf}
 use Rattle.rules.specs.Order.{topmost, upper}

@@ -1,5 +1,5 @@
 -- Give, charge and abort: the stored machine after their changes shows the state after them, and is stored.
-use Prim.Native.Nat.{ℕ, suc, _+_, _-_, _≤_, _<_}
+use Prim.Native.Nat.{ℕ, _+_, _-_, _<_}
 use mathlib.Core.Path.{_≡_, refl, sym, _∙_, ap, ap₂, subst}
 use mathlib.Core.List.{List, [], _∷_, _++_, map}
 use mathlib.Core.Bool.{Bool, true, false, cond}
@@ -16,11 +16,11 @@ use Rattle.rules.specs.declared.Place.the-variants.{Queue}
 use Rattle.rules.specs.declared.Chain.{Chain}
 use Rattle.rules.specs.declared.Running.the-variants.{Runs}
 use Rattle.rules.specs.declared.Timeslice.{Timeslice}
-use Rattle.rules.specs.State.{Slice, State, sliceAt, holdAt, liveThreads, withThreads, withPlaces, withTimeslices}
+use Rattle.rules.specs.State.{Slice, State, sliceAt, holdAt, withThreads, withTimeslices}
 use Rattle.rules.specs.Walk.{walk}
 use Rattle.rules.specs.Threads.{aborted}
-use Rattle.rules.specs.Timeslices.{withLeft, setLeft, given, last, toBack, charged, refilled}
-use Rattle.rules.specs.Release.{behind, release}
+use Rattle.rules.specs.Timeslices.{withLeft, setLeft, given, last, charged, refilled}
+use Rattle.rules.specs.Release.{release}
 use Rattle.rules.specs.Sound.{isBlocked}
 use Rattle.rules.specs.Choice.{Outcome, choose}
 use Rattle.rules.specs.Events.{withGiven, releaseAbort, abortAfter, abort, depletes, spends, chargeBy, charge, overtakes, settleIf, settle}
@@ -32,7 +32,7 @@ use Rattle.dispatcher.specs.Turning.{Turned}
 use Rattle.dispatcher.specs.Choosing.{before, Settled, Chosen}
 use Rattle.dispatcher.proofs.Tables.{slice-at, map-set}
 use Rattle.dispatcher.proofs.Releases.{release-is}
-use Rattle.dispatcher.proofs.Stored.{live-is, turns-fit, free-zero, stored-of, stored-with}
+use Rattle.dispatcher.proofs.Stored.{live-is, turns-fit, free-zero, stored-of}
 
 -- a new timeslice, last in turn order
 module _ (m : Machine) (j i t n p q : ℕ) (at : j ≡ t) (end : i ≡ m .«live_timeslices») (short : m .«live_timeslices» < 128) where

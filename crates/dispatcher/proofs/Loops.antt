@@ -13,7 +13,6 @@ use Rattle.rules.specs.declared.Thread.{Thread}
 use Rattle.rules.specs.Tests.{member, distinct, all, below}
 use Rattle.rules.specs.State.{limit, freeThread, threadAt, liveThreads, oneMoreIf}
 use Rattle.dispatcher.proofs.Tests.{both}
-use Rattle.dispatcher.proofs.Tables.{turn, turns-out}
 use Rattle.dispatcher.proofs.Clauses.{and-no}
 use Rattle.dispatcher.proofs.Along.{Along, here, next, out}
 

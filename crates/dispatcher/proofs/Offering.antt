@@ -1,7 +1,6 @@
 -- The two doors: an unsound machine is refused with 1, a sound one is dispatched.
-use mathlib.Core.Path.{_≡_, refl, sym, ap, _∙_, subst}
-use mathlib.Core.Bool.{Bool, true, false}
-use Prim.Native.Nat.{ℕ}
+use mathlib.Core.Path.{_≡_, refl}
+use mathlib.Core.Bool.{true, false}
 use Rattle.rules.specs.declared.Event.{Event}
 use Rattle.rules.specs.Events as events
 use Rattle.dispatcher.specs.declared.Machine.{Machine}

@@ -2,16 +2,15 @@
 use Prim.Native.Nat.{ℕ, _≤_, _<_}
 use mathlib.Core.Path.{_≡_, refl, sym, ap, _∙_}
 use mathlib.Core.List.{List, [], _∷_, map}
-use mathlib.Core.Bool.{Bool, true, false, _&&_, _||_}
+use mathlib.Core.Bool.{true, false, _||_}
 use native.Mathlib.Omega.{arith}
 use lib.ListN.{length, getD, take}
 use lib.Seq.{length-take-le, getD-take, ext-getD}
 use lib.Dec.{ltb, leb, eqb}
-use borrow.Author.Tests.{eqb-true, leb-true, ltb-true, ltb-false}
-use Rattle.rules.specs.declared.Place.{Place}
+use borrow.Author.Tests.{eqb-true, leb-true, ltb-true}
 use Rattle.rules.specs.declared.Timeslice.{Timeslice}
 use Rattle.rules.specs.Tests.{below}
-use Rattle.rules.specs.State.{Slice, State, limit, liveThreads}
+use Rattle.rules.specs.State.{State, limit, liveThreads}
 use Rattle.rules.proofs.Basics.Views.{Two, yes-true, no-false, two, and3}
 use Rattle.rules.proofs.Basics.Members.{below-at}
 use Rattle.dispatcher.specs.declared.Machine.{Machine}

@@ -1,11 +1,11 @@
 -- THE THEOREMS about the code: lists whose steps are the dispatcher's own public methods, known by their contracts alone.
-use Prim.Native.Nat.{ℕ, _≤_, _*_, _+_}
+use Prim.Native.Nat.{_≤_, _*_, _+_}
 use mathlib.Core.Path.{_≡_, refl, sym, ap, _∙_, subst}
 use mathlib.Core.List.{List, [], _∷_, map}
-use mathlib.Core.Bool.{Bool, true, false, _&&_}
+use mathlib.Core.Bool.{Bool, true}
 use lib.ListN.{length}
 use Rattle.rules.specs.declared.Event.{Event}
-use Rattle.rules.specs.State.{State, Plain, forget, empty, liveThreads}
+use Rattle.rules.specs.State.{State, Plain, forget, liveThreads}
 use Rattle.rules.specs.Sound.{sound}
 use Rattle.rules.specs.Events as events
 use Rattle.rules.specs.Plain.{plainOffer, emptyPlain}

@@ -3,13 +3,12 @@ use Prim.Native.Nat.{ℕ}
 use mathlib.Core.Path.{_≡_, refl, sym, _∙_, ap, ap₂, subst}
 use mathlib.Core.List.{List, map}
 use mathlib.Core.Bool.{Bool, true, false}
-use mathlib.Core.Option.{Option, none, some}
+use mathlib.Core.Option.{none, some}
 use lib.ListN.{take}
-use Rattle.rules.specs.declared.Place.{Place}
 use Rattle.rules.specs.declared.Timeslice.{Timeslice}
 use Rattle.rules.specs.declared.Running.{Running}
 use Rattle.rules.specs.declared.Running.the-variants.{Nothing, Runs}
-use Rattle.rules.specs.State.{Slice, State, withPlaces}
+use Rattle.rules.specs.State.{State}
 use Rattle.rules.specs.Order.{standsAbove}
 use Rattle.rules.specs.Release.{onThread, topmostAt, releasedPlaces, release, releaseTo}
 use Rattle.rules.specs.Choice.{Outcome, choose}
@@ -18,7 +17,7 @@ use Rattle.dispatcher.specs.declared.Machine.{Machine}
 use Rattle.dispatcher.specs.declared.Answered.{Answered}
 use Rattle.dispatcher.specs.declared.order.Found.{Found}
 use Rattle.dispatcher.specs.declared.order.Found.the-variants.{At, Nothing as None}
-use Rattle.dispatcher.specs.Shown.{sliceOf, placeOf, shown, stored}
+use Rattle.dispatcher.specs.Shown.{placeOf, shown, stored}
 use Rattle.dispatcher.specs.Sets.{found}
 use Rattle.dispatcher.specs.Releasing.{Replaced}
 use Rattle.dispatcher.specs.Choosing.{Choosable, before, Settled}

@@ -1,7 +1,7 @@
 -- What `stored` says of a machine.
 use Prim.Native.Nat.{ℕ, suc, _≤_, _<_}
 use native.Mathlib.Omega.{arith}
-use mathlib.Core.Path.{_≡_, refl, sym, _∙_, ap}
+use mathlib.Core.Path.{_≡_, refl, _∙_, ap}
 use mathlib.Core.List.{List, [], _∷_}
 use mathlib.Core.Bool.{Bool, true, false, _&&_, _||_}
 use lib.ListN.{length, getD, set, length-set}
@@ -14,7 +14,7 @@ use Rattle.rules.specs.declared.Service.the-variants.{Nobody, Serving, Orphan}
 use Rattle.rules.specs.declared.Role.{Role}
 use Rattle.rules.specs.declared.Thread.{Thread}
 use Rattle.rules.specs.Tests.{below}
-use Rattle.rules.specs.State.{limit, freeThread, threadAt, liveThreads, oneMoreIf}
+use Rattle.rules.specs.State.{limit, threadAt, liveThreads, oneMoreIf}
 use Rattle.rules.specs.Threads.{setHold, setService, withHold, withService, startsAs, created, donate, freeCaller, replied, orphanServer, aborted}
 use Rattle.dispatcher.specs.declared.Machine.{Machine}
 use Rattle.dispatcher.specs.Shown.{stored}

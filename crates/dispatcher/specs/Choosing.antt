@@ -1,5 +1,5 @@
 -- The choice over the stored machine.
-use Prim.Native.Nat.{ℕ, _+_, _≤_}
+use Prim.Native.Nat.{ℕ, _≤_}
 use mathlib.Core.Path.{_≡_}
 use mathlib.Core.Bool.{true}
 use Rattle.rules.specs.Walk.{runs, retries, waits, stalls}

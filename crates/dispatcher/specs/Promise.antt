@@ -1,5 +1,4 @@
 -- What every event's answer promises.
-use Prim.Native.Nat.{ℕ}
 use mathlib.Core.Path.{_≡_}
 use Rattle.rules.specs.Events as events
 use Rattle.dispatcher.specs.declared.Machine.{Machine}

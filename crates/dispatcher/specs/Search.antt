@@ -1,6 +1,6 @@
 -- The search for the topmost timeslice, from the back of the turn order to its front.
 use Prim.Native.Nat.{ℕ, zero, suc}
-use mathlib.Core.Bool.{Bool, cond}
+use mathlib.Core.Bool.{cond}
 use mathlib.Core.Option.{Option, none, some}
 use lib.Dec.{ltb}
 use Rattle.rules.specs.declared.Place.{Place}

@@ -1,5 +1,5 @@
 -- The sets of timeslices that are released or chosen from, named by a place, and the answer of a search.
-use Prim.Native.Nat.{ℕ, zero, suc}
+use Prim.Native.Nat.{ℕ}
 use mathlib.Core.Bool.{Bool}
 use mathlib.Core.Option.{Option, none, some}
 use Rattle.rules.specs.declared.Place.{Place}

@@ -1,6 +1,5 @@
 -- How a stored machine shows the state that document 01's rules speak of, and which stored machines are sound.
-use Prim.Native.Nat.{ℕ}
-use mathlib.Core.List.{List, map}
+use mathlib.Core.List.{map}
 use mathlib.Core.Bool.{Bool, _&&_, _||_}
 use lib.ListN.{getD, take, replicate}
 use lib.Dec.{leb, ltb, eqb}

@@ -1,8 +1,8 @@
 // Document 01, "Events": the eight events on a sound machine, in their modules, and here one door to all.
 ghost use mathlib.Core.Path.{_≡_};
 ghost use mathlib.Core.Bool.{true};
-ghost use Rattle.dispatcher.specs.Shown.{soundMachine, shown};
 ghost use Rattle.rules.specs.Events.{dispatch};
+ghost use Rattle.dispatcher.specs.Shown.{shown, soundMachine};
 ghost use Rattle.dispatcher.specs.Promise.{Answers};
 use crate::Answered;
 use crate::Machine;

@@ -1,5 +1,4 @@
 // Document 01, "Events": after an event's changes, the releases and the choice that it makes.
-ghost use mathlib.Core.Path.{_≡_};
 ghost use mathlib.Core.Option.{some};
 ghost use Rattle.rules.specs.Events.{overtakes, settleIf, settle, releases};
 ghost use Rattle.dispatcher.specs.Shown.{shown};

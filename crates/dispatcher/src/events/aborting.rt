@@ -1,11 +1,11 @@
 // Document 01, "Events" and "Refusals, operation by operation": Abort.
 ghost use mathlib.Core.Path.{_≡_};
 ghost use mathlib.Core.Bool.{true};
-ghost use Rattle.rules.specs.State.{holdAt};
-ghost use Rattle.dispatcher.specs.Choosing.{Choosable, Settled};
-ghost use Rattle.dispatcher.specs.Shown.{soundMachine, shown};
 ghost use Rattle.rules.specs.declared.Event.the-variants.{Abort};
 ghost use Rattle.rules.specs.Events.{dispatch, settle, abort};
+ghost use Rattle.rules.specs.State.{holdAt};
+ghost use Rattle.dispatcher.specs.Choosing.{Choosable, Settled};
+ghost use Rattle.dispatcher.specs.Shown.{shown, soundMachine};
 ghost use Rattle.dispatcher.specs.Promise.{Answers};
 use crate::Answered;
 use crate::Machine;

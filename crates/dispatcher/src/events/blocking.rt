@@ -1,9 +1,9 @@
 // Document 01, "Events" and "Refusals, operation by operation": Block and Wake.
 ghost use mathlib.Core.Path.{_≡_};
 ghost use mathlib.Core.Bool.{true};
-ghost use Rattle.dispatcher.specs.Shown.{soundMachine, shown};
 ghost use Rattle.rules.specs.declared.Event.the-variants.{Block, Wake};
 ghost use Rattle.rules.specs.Events.{dispatch};
+ghost use Rattle.dispatcher.specs.Shown.{shown, soundMachine};
 ghost use Rattle.dispatcher.specs.Promise.{Answers};
 use crate::Answered;
 use crate::Machine;

@@ -1,11 +1,11 @@
 // Document 01, "Events" and "Refusals, operation by operation": Call and Reply.
 ghost use mathlib.Core.Path.{_≡_};
 ghost use mathlib.Core.Bool.{true};
-ghost use Prim.Native.Nat.{_≤_};
-ghost use Rattle.dispatcher.specs.Choosing.{Choosable, Settled};
-ghost use Rattle.dispatcher.specs.Shown.{soundMachine, shown};
 ghost use Rattle.rules.specs.declared.Event.the-variants.{Call, Reply};
+ghost use Prim.Native.Nat.{_≤_};
 ghost use Rattle.rules.specs.Events.{dispatch, settle, callDonates, callHelps, replyTo};
+ghost use Rattle.dispatcher.specs.Choosing.{Choosable, Settled};
+ghost use Rattle.dispatcher.specs.Shown.{shown, soundMachine};
 ghost use Rattle.dispatcher.specs.Promise.{Answers};
 use crate::Answered;
 use crate::Machine;

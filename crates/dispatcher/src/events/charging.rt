@@ -1,12 +1,12 @@
 // Document 01, "Events" and "Refusals, operation by operation": Charge.
 ghost use mathlib.Core.Path.{_≡_};
 ghost use mathlib.Core.Bool.{true};
+ghost use Rattle.rules.specs.declared.Event.the-variants.{Charge};
 ghost use Prim.Native.Nat.{_<_};
+ghost use Rattle.rules.specs.Events.{dispatch, settle, depletes};
 ghost use Rattle.rules.specs.Tests.{member as memberOf};
 ghost use Rattle.dispatcher.specs.Choosing.{Choosable, Settled};
-ghost use Rattle.dispatcher.specs.Shown.{soundMachine, shown};
-ghost use Rattle.rules.specs.declared.Event.the-variants.{Charge};
-ghost use Rattle.rules.specs.Events.{dispatch, settle, depletes};
+ghost use Rattle.dispatcher.specs.Shown.{shown, soundMachine};
 ghost use Rattle.dispatcher.specs.Promise.{Answers};
 use crate::Answered;
 use crate::Machine;

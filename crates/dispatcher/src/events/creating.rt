@@ -1,10 +1,10 @@
 // Document 01, "Events" and "Refusals, operation by operation": Create and Give.
 ghost use mathlib.Core.Path.{_≡_};
 ghost use mathlib.Core.Bool.{true};
-ghost use Rattle.dispatcher.specs.Shown.{soundMachine, shown};
 ghost use Rattle.rules.specs.declared.Event.the-variants.{Create, Give};
 ghost use Rattle.rules.specs.Threads.{startsAs};
 ghost use Rattle.rules.specs.Events.{dispatch};
+ghost use Rattle.dispatcher.specs.Shown.{shown, soundMachine};
 ghost use Rattle.dispatcher.specs.Promise.{Answers};
 use crate::Answered;
 use crate::Machine;

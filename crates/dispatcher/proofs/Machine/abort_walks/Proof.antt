@@ -1,20 +1,15 @@
-use Prim.Native.Nat.{ℕ, _≤_}
+use Prim.Native.Nat.{_≤_}
 use mathlib.Core.Path.{_≡_, refl, sym, _∙_, ap, ap₂}
 use native.Mathlib.Omega.{arith}
-use borrow.Author.Tests.{lt-ltb, le-ltb, eq-eqb, ne-eqb, not-true, not-false}
-use lib.ListN.{length, take, length-map}
-use lib.Seq.{length-take-le}
-use Rattle.rules.specs.declared.Thread.{Thread}
+use lib.ListN.{length, length-map}
 use Rattle.dispatcher.specs.Shown.{shown}
 use mathlib.Core.Bool.{Bool, true, false}
 use mathlib.Core.Logic.{⊎-elim}
-use Rattle.rules.specs.declared.Place.the-variants.{On, Stalled}
 use Rattle.rules.specs.State.{holdAt, withThreads, liveThreads}
 use Rattle.rules.specs.Threads.{aborted}
 use Rattle.rules.specs.Sound.{isBlocked}
 use Rattle.rules.specs.Release.{onThread, stalled}
 use Rattle.rules.specs.Events.{releaseAbort}
-use Rattle.dispatcher.specs.Choosing.{Choosable}
 use Rattle.dispatcher.proofs.Tables.{held, held-none}
 use Rattle.dispatcher.proofs.Walks.{walk-links}
 use Rattle.dispatcher.proofs.Stored.{live-is, turns-fit, stored-with, live-aborted}

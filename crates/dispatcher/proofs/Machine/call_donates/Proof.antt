@@ -1,8 +1,4 @@
-use Prim.Native.Nat.{ℕ}
-use mathlib.Core.Path.{_≡_, refl, sym, _∙_, ap}
 use native.Mathlib.Omega.{arith}
-use borrow.Author.Tests.{lt-ltb, le-ltb, eq-eqb, ne-eqb, not-true, not-false}
-use Rattle.dispatcher.specs.Shown.{shown}
 use Rattle.rules.specs.Events.{callDonates, releases}
 use Rattle.dispatcher.proofs.Answering.{said-of}
 use Rattle.dispatcher.proofs.Stored.{live-donate}
@@ -10,10 +6,6 @@ use Rattle.dispatcher.proofs.Changes.{choosable, runningTo, running-sho
 use borrow.Author.Needs.{needs}
 use Rattle.dispatcher.proofs.Machine.call_donates.Statement.{statement}
 use Rattle.dispatcher.proofs.Machine.call_donates.Tie as tie
-use Rattle.dispatcher.proofs.Machine.call_donates.Reads as reads
-use Rattle.dispatcher.proofs.Machine.call_donates.Lts as lts
-use Rattle.dispatcher.proofs.Machine.waiters_released.Reads as waiters-released-reads
-use Rattle.dispatcher.proofs.threads.donated.Reads as donated-reads
 
 donated-requires : tie.Need-donated-requires
 donated-requires c κs = search needs

@@ -1,8 +1,3 @@
-use Prim.Native.Nat.{ℕ}
-use mathlib.Core.Path.{_≡_, refl, sym, _∙_, ap}
-use native.Mathlib.Omega.{arith}
-use borrow.Author.Tests.{lt-ltb, le-ltb, eq-eqb, ne-eqb, not-true, not-false}
-use Rattle.dispatcher.specs.Shown.{shown}
 use Rattle.rules.specs.Events.{callHelps}
 use Rattle.dispatcher.proofs.Answering.{chosen}
 use Rattle.dispatcher.proofs.Stored.{live-hold}
@@ -10,10 +5,6 @@ use Rattle.dispatcher.proofs.Changes.{choosable, threadsTo, threads-sho
 use borrow.Author.Needs.{needs}
 use Rattle.dispatcher.proofs.Machine.call_helps.Statement.{statement}
 use Rattle.dispatcher.proofs.Machine.call_helps.Tie as tie
-use Rattle.dispatcher.proofs.Machine.call_helps.Reads as reads
-use Rattle.dispatcher.proofs.Machine.call_helps.Lts as lts
-use Rattle.dispatcher.proofs.Machine.choose.Reads as choose-reads
-use Rattle.dispatcher.proofs.threads.with_hold.Reads as with-hold-reads
 
 with-hold-requires : tie.Need-with-hold-requires
 with-hold-requires c κs = search needs

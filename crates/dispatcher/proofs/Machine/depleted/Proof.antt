@@ -1,23 +1,13 @@
-use Prim.Native.Nat.{ℕ, _<_}
-use mathlib.Core.Path.{_≡_, refl, sym, _∙_, ap}
+use mathlib.Core.Path.{refl}
 use native.Mathlib.Omega.{arith}
-use borrow.Author.Tests.{lt-ltb, le-ltb, eq-eqb, ne-eqb, not-true, not-false}
-use lib.ListN.{length, take, length-map}
-use lib.Seq.{length-take-le}
-use Rattle.rules.specs.declared.Thread.{Thread}
 use Rattle.dispatcher.specs.Shown.{shown}
-use Rattle.rules.specs.declared.Timeslice.{Timeslice}
 use Rattle.rules.specs.Release.{behind}
-use Rattle.rules.specs.State.{Slice, sliceAt}
-use Rattle.rules.specs.Timeslices.{refilled, setLeft, toBack}
+use Rattle.rules.specs.Timeslices.{refilled, toBack}
 use Rattle.rules.specs.Events.{depletes}
-use Rattle.dispatcher.specs.Shown.{sliceOf, freeTimeslice}
 use Rattle.dispatcher.proofs.Answering.{chosen}
-use Rattle.dispatcher.proofs.Tables.{slice-at}
 use Rattle.dispatcher.proofs.Stored.{turns-fit}
 use Rattle.dispatcher.proofs.Given.{movedTo, refills, left-places, released-shown, turned-exact}
 use Rattle.dispatcher.proofs.Changes.{choosable}
-use borrow.Author.Needs.{needs}
 use Rattle.dispatcher.proofs.Machine.depleted.Statement.{statement}
 use Rattle.dispatcher.proofs.Machine.depleted.Tie as tie
 

@@ -1,5 +1,4 @@
 use borrow.Author.Needs.{needs}
-use native.Mathlib.Omega.{arith}
 use Rattle.dispatcher.proofs.Machine.dispatch.Statement.{statement}
 use Rattle.dispatcher.proofs.Machine.dispatch.Tie as tie
 

@@ -1,9 +1,5 @@
-use Prim.Native.Nat.{ℕ, _<_}
-use mathlib.Core.Path.{_≡_, refl, sym, _∙_, ap}
-use native.Mathlib.Omega.{arith}
-use borrow.Author.Tests.{lt-ltb, le-ltb, eq-eqb, ne-eqb, not-true, not-false}
-use lib.ListN.{length, take, length-map}
-use lib.Seq.{length-take-le}
+use mathlib.Core.Path.{refl, sym, _∙_, ap}
+use borrow.Author.Tests.{lt-ltb, le-ltb, not-true, not-false}
 use Rattle.rules.specs.declared.Thread.{Thread}
 use Rattle.dispatcher.specs.Shown.{shown}
 use Rattle.rules.specs.declared.Event.the-variants.{Abort}

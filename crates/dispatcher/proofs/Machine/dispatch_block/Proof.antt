@@ -1,9 +1,9 @@
-use mathlib.Core.Path.{_≡_, refl, ap}
+use mathlib.Core.Path.{refl}
 use Rattle.rules.specs.declared.Hold.the-variants.{Blocked}
 use Rattle.rules.specs.declared.Event.the-variants.{Block}
-use Rattle.rules.specs.State.{withThreads, nothingRuns}
+use Rattle.rules.specs.State.{withThreads}
 use Rattle.rules.specs.Threads.{setHold}
-use Rattle.rules.specs.Events.{block, blockBy, chooses-in}
+use Rattle.rules.specs.Events.{block, chooses-in}
 use Rattle.dispatcher.specs.Shown.{shown}
 use Rattle.dispatcher.proofs.Answering.{refuse, accept, chosen, sound-stored}
 use Rattle.dispatcher.proofs.Stored.{live-hold}
@@ -12,10 +12,6 @@ use native.Mathlib.Omega.{arith}
 use borrow.Author.Needs.{needs}
 use Rattle.dispatcher.proofs.Machine.dispatch_block.Statement.{statement}
 use Rattle.dispatcher.proofs.Machine.dispatch_block.Tie as tie
-use Rattle.dispatcher.proofs.Machine.dispatch_block.Reads as reads
-use Rattle.dispatcher.proofs.Machine.dispatch_block.Lts as lts
-use Rattle.dispatcher.proofs.Machine.choose.Reads as choose-reads
-use Rattle.dispatcher.proofs.threads.with_hold.Reads as with-hold-reads
 
 enum-told : tie.Need-enum-told
 enum-told c = search needs

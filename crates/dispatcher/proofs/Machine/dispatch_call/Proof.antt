@@ -1,10 +1,8 @@
-use Prim.Native.Nat.{ℕ}
 use mathlib.Core.Path.{_≡_, refl, sym, _∙_, ap}
-use native.Mathlib.Omega.{arith}
 use borrow.Author.Tests.{lt-ltb, le-ltb, eq-eqb, ne-eqb, not-true, not-false}
 use lib.ListN.{length, length-map}
 use Rattle.rules.specs.declared.Thread.{Thread}
-use Rattle.rules.specs.State.{withThreads, holdAt, freeThread}
+use Rattle.rules.specs.State.{holdAt}
 use Rattle.dispatcher.specs.Shown.{shown}
 use Rattle.rules.specs.declared.Event.the-variants.{Call}
 use Rattle.rules.specs.Sound.{isIdle, isServer}
@@ -15,13 +13,6 @@ use Rattle.dispatcher.proofs.Changes.{read, choosable, call-idle, call-
 use borrow.Author.Needs.{needs}
 use Rattle.dispatcher.proofs.Machine.dispatch_call.Statement.{statement}
 use Rattle.dispatcher.proofs.Machine.dispatch_call.Tie as tie
-use Rattle.dispatcher.proofs.Machine.dispatch_call.Reads as reads
-use Rattle.dispatcher.proofs.Machine.dispatch_call.Lts as lts
-use Rattle.dispatcher.proofs.Machine.call_donates.Reads as call-donates-reads
-use Rattle.dispatcher.proofs.Machine.call_helps.Reads as call-helps-reads
-use Rattle.dispatcher.proofs.records.is_idle.Reads as is-idle-reads
-use Rattle.dispatcher.proofs.records.is_server.Reads as is-server-reads
-use Rattle.dispatcher.proofs.numbers.index.Reads as index-reads
 
 enum-told : tie.Need-enum-told
 enum-told c = search needs

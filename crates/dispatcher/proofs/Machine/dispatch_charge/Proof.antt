@@ -1,10 +1,8 @@
-use Prim.Native.Nat.{ℕ, _-_, _<_}
-use mathlib.Core.Path.{_≡_, refl, sym, _∙_, ap}
+use Prim.Native.Nat.{_-_}
+use mathlib.Core.Path.{refl}
 use native.Mathlib.Omega.{arith}
-use borrow.Author.Tests.{lt-ltb, le-ltb, eq-eqb, ne-eqb, not-true, not-false}
-use lib.ListN.{length, getD, take, length-map}
-use lib.Seq.{length-take-le}
-use Rattle.rules.specs.declared.Thread.{Thread}
+use borrow.Author.Tests.{lt-ltb, le-ltb, eq-eqb, ne-eqb}
+use lib.ListN.{getD, take}
 use Rattle.dispatcher.specs.Shown.{shown, freeTimeslice}
 use Rattle.rules.specs.declared.Event.the-variants.{Charge}
 use Rattle.dispatcher.proofs.Answering.{refuse, accept, stands, sound-stored, sound-shown}

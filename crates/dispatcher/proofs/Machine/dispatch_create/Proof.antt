@@ -1,5 +1,4 @@
 use mathlib.Core.Path.{_≡_, refl, sym, _∙_, ap}
-use mathlib.Core.Bool.{Bool}
 use Prim.Native.Nat.{ℕ}
 use native.Mathlib.Omega.{arith}
 use lib.ListN.{length, length-map}
@@ -14,10 +13,6 @@ use Rattle.dispatcher.specs.Shown.{shown}
 use borrow.Author.Needs.{needs}
 use Rattle.dispatcher.proofs.Machine.dispatch_create.Statement.{statement}
 use Rattle.dispatcher.proofs.Machine.dispatch_create.Tie as tie
-use Rattle.dispatcher.proofs.Machine.dispatch_create.Reads as reads
-use Rattle.dispatcher.proofs.Machine.dispatch_create.Lts as lts
-use Rattle.dispatcher.proofs.events.creating.starts_as.Reads as starts-as-reads
-use Rattle.dispatcher.proofs.numbers.index.Reads as index-reads
 
 returns : tie.Need-returns
 returns c = let a = c .before .args in refuse (Create (a .n) (a .role)) (a .t1) 1 (rw (lt-ltb _ _ (c .if1 .taken)) refl)

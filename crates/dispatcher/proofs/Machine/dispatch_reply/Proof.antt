@@ -1,13 +1,11 @@
 use Prim.Native.Nat.{ℕ}
 use mathlib.Core.Path.{_≡_, refl, sym, _∙_, ap}
-use native.Mathlib.Omega.{arith}
-use borrow.Author.Tests.{lt-ltb, le-ltb, eq-eqb, ne-eqb, not-true, not-false}
+use borrow.Author.Tests.{not-true, not-false}
 use lib.ListN.{length, length-map}
 use Rattle.rules.specs.declared.Thread.{Thread}
-use Rattle.rules.specs.State.{withThreads, holdAt, serviceAt, freeThread}
+use Rattle.rules.specs.State.{withThreads, serviceAt, freeThread}
 use Rattle.dispatcher.specs.Shown.{shown}
 use Rattle.rules.specs.declared.Event.the-variants.{Reply}
-use Rattle.rules.specs.declared.Service.{Service}
 use Rattle.rules.specs.Sound.{isServer}
 use Rattle.rules.specs.Threads.{replied}
 use Rattle.rules.specs.Events.{reply, replyBy, replyTo}
@@ -18,12 +16,6 @@ use Rattle.dispatcher.proofs.Changes.{read, choosable, threadsTo, threa
 use borrow.Author.Needs.{needs}
 use Rattle.dispatcher.proofs.Machine.dispatch_reply.Statement.{statement}
 use Rattle.dispatcher.proofs.Machine.dispatch_reply.Tie as tie
-use Rattle.dispatcher.proofs.Machine.dispatch_reply.Reads as reads
-use Rattle.dispatcher.proofs.Machine.dispatch_reply.Lts as lts
-use Rattle.dispatcher.proofs.Machine.reply_to.Reads as reply-to-reads
-use Rattle.dispatcher.proofs.records.is_server.Reads as is-server-reads
-use Rattle.dispatcher.proofs.numbers.index.Reads as index-reads
-use Rattle.dispatcher.proofs.threads.replied.Reads as replied-reads
 
 enum-told : tie.Need-enum-told
 enum-told c = search needs

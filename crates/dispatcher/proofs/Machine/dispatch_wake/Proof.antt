@@ -1,7 +1,5 @@
-use Prim.Native.Nat.{ℕ}
-use mathlib.Core.Path.{_≡_, refl, sym, _∙_, ap}
-use native.Mathlib.Omega.{arith}
-use borrow.Author.Tests.{lt-ltb, le-ltb, eq-eqb, ne-eqb, not-true, not-false}
+use mathlib.Core.Path.{refl, sym, _∙_}
+use borrow.Author.Tests.{lt-ltb, le-ltb, not-true, not-false}
 use Rattle.dispatcher.specs.Shown.{shown}
 use Rattle.rules.specs.declared.Event.the-variants.{Wake}
 use Rattle.rules.specs.declared.Hold.the-variants.{Ready}
@@ -16,12 +14,6 @@ use Rattle.dispatcher.proofs.Changes.{read, choosable, threadsTo, threa
 use borrow.Author.Needs.{needs}
 use Rattle.dispatcher.proofs.Machine.dispatch_wake.Statement.{statement}
 use Rattle.dispatcher.proofs.Machine.dispatch_wake.Tie as tie
-use Rattle.dispatcher.proofs.Machine.dispatch_wake.Reads as reads
-use Rattle.dispatcher.proofs.Machine.dispatch_wake.Lts as lts
-use Rattle.dispatcher.proofs.Machine.waiters_released.Reads as waiters-released-reads
-use Rattle.dispatcher.proofs.records.is_blocked.Reads as is-blocked-reads
-use Rattle.dispatcher.proofs.numbers.index.Reads as index-reads
-use Rattle.dispatcher.proofs.threads.with_hold.Reads as with-hold-reads
 
 returns : tie.Need-returns
 returns c = let a = c .before .args in refuse (Wake (a .n)) (a .t1) 1 (rw (lt-ltb _ _ (c .if1 .taken)) refl)

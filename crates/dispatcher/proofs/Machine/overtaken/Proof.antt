@@ -1,13 +1,8 @@
-use mathlib.Core.Path.{refl}
 use Rattle.dispatcher.proofs.Stored.{turns-fit}
 use Rattle.dispatcher.proofs.Settles.{chose, stayed, over-nothing, over-running}
 use borrow.Author.Needs.{needs}
 use Rattle.dispatcher.proofs.Machine.overtaken.Statement.{statement}
 use Rattle.dispatcher.proofs.Machine.overtaken.Tie as tie
-use Rattle.dispatcher.proofs.Machine.overtaken.Reads as reads
-use Rattle.dispatcher.proofs.Machine.overtaken.Lts as lts
-use Rattle.dispatcher.proofs.Machine.choose.Reads as choose-reads
-use Rattle.dispatcher.proofs.order.stands_above.Reads as stands-above-reads
 
 enum-told : tie.Need-enum-told
 enum-told c = search needs

@@ -1,20 +1,10 @@
-use Prim.Native.Nat.{ℕ}
-use mathlib.Core.Path.{_≡_, refl, sym, _∙_, ap}
-use native.Mathlib.Omega.{arith}
-use borrow.Author.Tests.{lt-ltb, le-ltb, eq-eqb, ne-eqb, not-true, not-false}
-use lib.ListN.{length, length-map}
-use Rattle.rules.specs.declared.Thread.{Thread}
-use Rattle.rules.specs.State.{withThreads, holdAt, freeThread}
-use Rattle.dispatcher.specs.Shown.{shown}
+use mathlib.Core.Path.{refl}
+use borrow.Author.Tests.{lt-ltb, le-ltb}
 use Rattle.dispatcher.proofs.Answering.{stands}
-use Rattle.rules.specs.Events.{settle, replyTo}
-use Rattle.dispatcher.proofs.Changes.{running-shown, running-exact}
+use Rattle.dispatcher.proofs.Changes.{running-exact}
 use borrow.Author.Needs.{needs}
 use Rattle.dispatcher.proofs.Machine.reply_to.Statement.{statement}
 use Rattle.dispatcher.proofs.Machine.reply_to.Tie as tie
-use Rattle.dispatcher.proofs.Machine.reply_to.Reads as reads
-use Rattle.dispatcher.proofs.Machine.reply_to.Lts as lts
-use Rattle.dispatcher.proofs.Machine.choose.Reads as choose-reads
 
 enum-told : tie.Need-enum-told
 enum-told c = search needs

@@ -3,11 +3,6 @@ use Rattle.dispatcher.proofs.Settles.{none-released, one-released, free
 use borrow.Author.Needs.{needs}
 use Rattle.dispatcher.proofs.Machine.waiters_released.Statement.{statement}
 use Rattle.dispatcher.proofs.Machine.waiters_released.Tie as tie
-use Rattle.dispatcher.proofs.Machine.waiters_released.Reads as reads
-use Rattle.dispatcher.proofs.Machine.waiters_released.Lts as lts
-use Rattle.dispatcher.proofs.Machine.overtaken.Reads as overtaken-reads
-use Rattle.dispatcher.proofs.order.topmost.Reads as topmost-reads
-use Rattle.dispatcher.proofs.release.released.Reads as released-reads
 
 topmost-requires : tie.Need-topmost-requires
 topmost-requires c κs = turns-fit _ (c .before .before .pre .exact)

@@ -2,10 +2,6 @@ use Rattle.rules.specs.Threads.{aborted as abortedOf}
 use borrow.Author.Needs.{needs}
 use Rattle.dispatcher.proofs.threads.aborted.Statement.{statement}
 use Rattle.dispatcher.proofs.threads.aborted.Tie as tie
-use Rattle.dispatcher.proofs.threads.aborted.Reads as reads
-use Rattle.dispatcher.proofs.threads.aborted.Lts as lts
-use Rattle.dispatcher.proofs.threads.orphaned.Reads as orphaned-reads
-use Rattle.dispatcher.proofs.threads.with_hold.Reads as with-hold-reads
 
 orphaned-requires : tie.Need-orphaned-requires
 orphaned-requires c κs = search needs

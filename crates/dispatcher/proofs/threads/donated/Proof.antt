@@ -1,12 +1,7 @@
-use mathlib.Core.Path.{_≡_}
 use Rattle.rules.specs.Threads.{donate}
 use borrow.Author.Needs.{needs}
 use Rattle.dispatcher.proofs.threads.donated.Statement.{statement}
 use Rattle.dispatcher.proofs.threads.donated.Tie as tie
-use Rattle.dispatcher.proofs.threads.donated.Reads as reads
-use Rattle.dispatcher.proofs.threads.donated.Lts as lts
-use Rattle.dispatcher.proofs.threads.with_hold.Reads as with-hold-reads
-use Rattle.dispatcher.proofs.threads.with_service.Reads as with-service-reads
 
 with-hold-requires : tie.Need-with-hold-requires
 with-hold-requires c κs = search needs

@@ -1,9 +1,6 @@
 use borrow.Author.Needs.{needs}
 use Rattle.dispatcher.proofs.threads.freed.Statement.{statement}
 use Rattle.dispatcher.proofs.threads.freed.Tie as tie
-use Rattle.dispatcher.proofs.threads.freed.Reads as reads
-use Rattle.dispatcher.proofs.threads.freed.Lts as lts
-use Rattle.dispatcher.proofs.threads.with_hold.Reads as with-hold-reads
 
 enum-told : tie.Need-enum-told
 enum-told c = search needs

@@ -1,9 +1,6 @@
 use borrow.Author.Needs.{needs}
 use Rattle.dispatcher.proofs.threads.orphaned.Statement.{statement}
 use Rattle.dispatcher.proofs.threads.orphaned.Tie as tie
-use Rattle.dispatcher.proofs.threads.orphaned.Reads as reads
-use Rattle.dispatcher.proofs.threads.orphaned.Lts as lts
-use Rattle.dispatcher.proofs.threads.with_service.Reads as with-service-reads
 
 enum-told : tie.Need-enum-told
 enum-told c = search needs

@@ -2,11 +2,6 @@ use Rattle.rules.specs.Threads.{replied as repliedOf}
 use borrow.Author.Needs.{needs}
 use Rattle.dispatcher.proofs.threads.replied.Statement.{statement}
 use Rattle.dispatcher.proofs.threads.replied.Tie as tie
-use Rattle.dispatcher.proofs.threads.replied.Reads as reads
-use Rattle.dispatcher.proofs.threads.replied.Lts as lts
-use Rattle.dispatcher.proofs.threads.freed.Reads as freed-reads
-use Rattle.dispatcher.proofs.threads.with_hold.Reads as with-hold-reads
-use Rattle.dispatcher.proofs.threads.with_service.Reads as with-service-reads
 
 freed-requires : tie.Need-freed-requires
 freed-requires c κs = search needs

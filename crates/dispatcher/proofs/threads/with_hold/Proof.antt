@@ -2,13 +2,9 @@ use mathlib.Core.Path.{sym}
 use native.Mathlib.Omega.{arith}
 use lib.Seq.{set-out}
 use Rattle.rules.specs.Threads.{setHold}
-use borrow.Author.Tests.{le-leb, le-ltb, lt-leb, lt-ltb}
 use borrow.Author.Needs.{needs}
 use Rattle.dispatcher.proofs.threads.with_hold.Statement.{statement}
 use Rattle.dispatcher.proofs.threads.with_hold.Tie as tie
-use Rattle.dispatcher.proofs.threads.with_hold.Reads as reads
-use Rattle.dispatcher.proofs.threads.with_hold.Lts as lts
-use Rattle.dispatcher.proofs.numbers.index.Reads as index-reads
 
 index-requires : tie.Need-index-requires
 index-requires c κs = search needs

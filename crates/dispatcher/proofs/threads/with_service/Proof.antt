@@ -2,13 +2,9 @@ use mathlib.Core.Path.{sym}
 use native.Mathlib.Omega.{arith}
 use lib.Seq.{set-out}
 use Rattle.rules.specs.Threads.{setService}
-use borrow.Author.Tests.{le-leb, le-ltb, lt-leb, lt-ltb}
 use borrow.Author.Needs.{needs}
 use Rattle.dispatcher.proofs.threads.with_service.Statement.{statement}
 use Rattle.dispatcher.proofs.threads.with_service.Tie as tie
-use Rattle.dispatcher.proofs.threads.with_service.Reads as reads
-use Rattle.dispatcher.proofs.threads.with_service.Lts as lts
-use Rattle.dispatcher.proofs.numbers.index.Reads as index-reads
 
 index-requires : tie.Need-index-requires
 index-requires c κs = search needs

@@ -1,14 +1,10 @@
 use Prim.Native.Nat.{_-_, _≤_}
-use mathlib.Core.Path.{_≡_, refl}
+use mathlib.Core.Path.{_≡_}
 use native.Mathlib.Omega.{arith}
-use borrow.Author.Needs.{needs}
 use lib.ListN.{length}
 use Rattle.dispatcher.proofs.Shifts.{Seeking, seek, pass, find, lost}
 use Rattle.dispatcher.proofs.turns.position.Statement.{statement}
 use Rattle.dispatcher.proofs.turns.position.Tie as tie
-use Rattle.dispatcher.proofs.turns.position.Reads as reads
-use Rattle.dispatcher.proofs.turns.position.Lts as lts
-use Rattle.dispatcher.proofs.numbers.index.Reads as index-reads
 
 abbrev Inv-loop : tie.InvT-loop
 Inv-loop live t order n i₀ i = (full : length order ≡ 128) × (fits : live ≤ 128) × Seeking t live order full fits n i

@@ -1,14 +1,8 @@
 use Prim.Native.Nat.{_-_, _≤_}
-use mathlib.Core.Path.{_≡_, refl}
 use native.Mathlib.Omega.{arith}
-use borrow.Author.Needs.{needs}
-use lib.ListN.{length}
 use Rattle.dispatcher.proofs.Shifts.{Shifting, shift, up, close}
 use Rattle.dispatcher.proofs.turns.shifted.Statement.{statement}
 use Rattle.dispatcher.proofs.turns.shifted.Tie as tie
-use Rattle.dispatcher.proofs.turns.shifted.Reads as reads
-use Rattle.dispatcher.proofs.turns.shifted.Lts as lts
-use Rattle.dispatcher.proofs.numbers.index.Reads as index-reads
 
 abbrev Inv-loop : tie.InvT-loop
 Inv-loop live from t order₀ n i₀ order i = (fits : live ≤ 128) × Shifting t live order₀ from fits n order i

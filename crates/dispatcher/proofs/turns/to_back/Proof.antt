@@ -1,6 +1,4 @@
 use Rattle.dispatcher.proofs.Shifts.{turned}
-use borrow.Author.Needs.{needs}
-use native.Mathlib.Omega.{arith}
 use Rattle.dispatcher.proofs.turns.to_back.Statement.{statement}
 use Rattle.dispatcher.proofs.turns.to_back.Tie as tie
 

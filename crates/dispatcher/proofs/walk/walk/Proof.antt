@@ -1,7 +1,6 @@
-use Prim.Native.Nat.{ℕ, _-_}
+use Prim.Native.Nat.{_-_}
 use mathlib.Core.Bool.{false}
-use mathlib.Core.Path.{_≡_, _∙_, sym, ap, refl}
-use lib.ListN.{length}
+use mathlib.Core.Path.{ap, refl}
 use native.Mathlib.Omega.{arith}
 use borrow.Author.Needs.{needs}
 use Rattle.dispatcher.proofs.Walks.{Walked, start, next, end, out}
@@ -11,8 +10,6 @@ use Rattle.rules.specs.declared.Hold.the-variants.{Ready}
 use Rattle.rules.specs.State.{freeThread}
 use Rattle.dispatcher.proofs.walk.walk.Statement.{statement}
 use Rattle.dispatcher.proofs.walk.walk.Tie as tie
-use Rattle.dispatcher.proofs.walk.walk.Reads as reads
-use Rattle.dispatcher.proofs.walk.walk.Lts as lts
 
 abbrev Inv-loop : tie.InvT-loop
 Inv-loop live from threads at₀ links₀ count₀ helper₀ at links count helper =
