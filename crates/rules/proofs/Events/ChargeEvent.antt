@@ -26,7 +26,7 @@ use Rattle.rules.specs.Plain.{update, plainCharge, plainTimeslices}
 use Rattle.rules.proofs.Basics.Views.{Two, yes-true, no-false, two, clash, Same, equal, different, same, and4, or-false-right}
 use Rattle.rules.proofs.Basics.Accepting.{passes}
 use Rattle.rules.proofs.Order.Orders.{is-top, above-same, above-back, member-back, distinct-back, length-back}
-use Rattle.rules.proofs.Soundness.Places.{queue-is, owner, runs-on, Sound}
+use Rattle.rules.proofs.Soundness.Places.{queue-is, runs-on, Sound}
 use Rattle.rules.proofs.Choosing.Releases.{release-mid, forget-release}
 use Rattle.rules.proofs.Choosing.Tops.{queue-top}
 use Rattle.rules.proofs.Tables.Slices.{Retimed, freed, stay, retimed-releasable, retimed-mid}

@@ -28,7 +28,7 @@ use Rattle.rules.proofs.Basics.Views.{clash, and4, or-false-left}
 use Rattle.rules.proofs.Basics.Members.{some-none}
 use Rattle.rules.proofs.Order.Orders.{above-last, member-last, member-last-other, distinct-last, length-last}
 use Rattle.rules.proofs.Soundness.Standings.{RunsAt}
-use Rattle.rules.proofs.Soundness.Places.{owner, Settled, runs-on, Sound}
+use Rattle.rules.proofs.Soundness.Places.{Settled, runs-on, Sound}
 use Rattle.rules.proofs.Basics.Accepting.{passes}
 use Rattle.rules.proofs.Tables.Slices.{Retimed, owner-kept, stay, retimed-mid, retimed-top}
 use Rattle.rules.proofs.Events.Hands.{Handed, active, linkLimit}

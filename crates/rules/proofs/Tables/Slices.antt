@@ -18,7 +18,7 @@ use Rattle.rules.proofs.Basics.Views.{clash, Same, equal, different, sa
 use Rattle.rules.proofs.Order.Orders.{above-same, above-total, is-none, is-top}
 use Rattle.rules.proofs.Soundness.Shapes.{Turns}
 use Rattle.rules.proofs.Soundness.Standings.{Waits, Stalls}
-use Rattle.rules.proofs.Soundness.Places.{owner, Led, Good, Mid}
+use Rattle.rules.proofs.Soundness.Places.{Led, Good, Mid}
 use Rattle.rules.proofs.Choosing.Releases.{Releasable, Ready, selected, kept, none-placed}
 use Rattle.rules.proofs.Choosing.Tops.{queue-top}
 use Rattle.rules.proofs.Choosing.Changes.{nowhere}
