@@ -29,9 +29,11 @@ use Rattle.dispatcher.specs.declared.order.Found.the-variants.{At, Nothi
 use Rattle.dispatcher.specs.declared.choice.Verdict.{Verdict as Said}
 use Rattle.dispatcher.specs.Sets.{found}
 use Rattle.dispatcher.specs.Releasing.{placesAfter, Replaced}
+use Rattle.dispatcher.specs.Ranking.{topOf, highest, Ranked}
 use Rattle.dispatcher.specs.Choosing.{verdictOf, Choosable, before, Chosen}
 use Rattle.dispatcher.proofs.Walks.{walk-links}
 use Rattle.dispatcher.proofs.Releases.{release-is}
+use Rattle.dispatcher.proofs.Rankings.{found-top}
 use Rattle.dispatcher.proofs.Stored.{live-is, turns-fit, stored-with, live-donate, length-donate}
 
 -- what a look finds: the topmost timeslice in Queue, its chain and what its end says
@@ -99,21 +101,24 @@ pub as-many : (ts us : List Timeslice) (ps : List Place) → Replaced ts ps us �
 as-many ts us ps r = sym (length-map us sliceOf) ∙ ap length (r .slices) ∙ length-map ts sliceOf
 
 -- the loop, with so many looks left
-pub record Choosing (first : Machine) (start live lives : ℕ) (order : List ℕ) (m : Machine) (links looks : ℕ) : Type 0 where
+pub record Choosing (first : Machine) (start live lives : ℕ) (order : List ℕ) (m : Machine) (links looks : ℕ) (codes ranks : List ℕ) : Type 0 where
   pub exact : stored m ≡ true
   pub turns : m .order ≡ order
   pub turned : m .«live_timeslices» ≡ live
   pub counted : m .«live_threads» ≡ lives
   pub fits : live ≤ 128
+  pub entries : length order ≡ 128
   pub threads : length (m .threads) ≡ 128
   pub timeslices : length (m .timeslices) ≡ 128
+  pub ranked : Ranked (m .timeslices) order live codes ranks
   pub few : links + 128 * looks ≤ 16768
   pub rest : chooseFrom looks (record { state = stateOf m live order; links = links }) ≡ choose (before first start)
 
-pub begin : (m : Machine) (links looks : ℕ) → Choosable m links → length (m .order) ≡ 128 → length (m .threads) ≡ 128 → length (m .timeslices) ≡ 128
-    → looks ≡ m .«live_timeslices» + 2 → Choosing m links (m .«live_timeslices») (m .«live_threads») (m .order) m links looks
+pub begin : (m : Machine) (links looks : ℕ) (codes ranks : List ℕ) → Choosable m links → length (m .order) ≡ 128 → length (m .threads) ≡ 128 → length (m .timeslices) ≡ 128
+    → looks ≡ m .«live_timeslices» + 2 → Ranked (m .timeslices) (m .order) (m .«live_timeslices») codes ranks
+    → Choosing m links (m .«live_timeslices») (m .«live_threads») (m .order) m links looks codes ranks
 unfolding choose
-begin m links looks c o ths ts e =
+begin m links looks codes ranks c o ths ts e r =
     let fits = turns-fit m (c .exact) in
     let two : looks ≡ suc (suc (length (take (m .«live_timeslices») (m .order)))) = rw (length-take-le (m .«live_timeslices») (m .order) (omega arith)) (omega arith) in
     record {
@@ -122,16 +127,22 @@ begin m links looks c o ths ts e =
       turned = refl;
       counted = refl;
       fits = fits;
+      entries = o;
       threads = ths;
       timeslices = ts;
+      ranked = r;
       few = omega (arith, c .few);
       rest = ap (λ (k : ℕ). chooseFrom k (before m links)) two;
     }
 
-module _ (first : Machine) (start live lives : ℕ) (order : List ℕ) (m : Machine) (links looks : ℕ) (w : Choosing first start live lives order m links looks) where
+module _ (first : Machine) (start live lives : ℕ) (order : List ℕ) (m : Machine) (links looks : ℕ) (codes ranks : List ℕ) (w : Choosing first start live lives order m links looks codes ranks) where
   -- L as the walk asks it
   pub lives-are : lives ≡ liveThreads (m .threads)
   lives-are = sym (w .counted) ∙ live-is m (w .exact)
+
+  -- the timeslice of the highest rank in Queue, whose code is 0
+  pub tops-queue : (f : Found) → found f ≡ topOf order (highest 0 codes ranks 0 live) → found f ≡ topmostAt inQueue (stateOf m live order)
+  tops-queue f e = found-top (m .timeslices) order live codes ranks (w .entries) (w .fits) (w .ranked) Queue 0 f refl e
 
   shows : (r : Running) → shown (record { threads = m .threads; timeslices = m .timeslices; order = m .order; «live_threads» = m .«live_threads»; «live_timeslices» = m .«live_timeslices»; running = r })
       ≡ withRunning r (stateOf m live order)
@@ -161,13 +172,13 @@ module _ (first : Machine) (start live lives : ℕ) (order : List ℕ) (m : Mach
       ends (m .running) links (rw z refl)
 
   -- the next look, from a machine with the same turn order and live threads
-  pub again : (n : Machine) (k t : ℕ) (c : Chain) (v : Verdict) (s : State)
+  pub again : (n : Machine) (after : List ℕ) (k t : ℕ) (c : Chain) (v : Verdict) (s : State)
       → n .order ≡ m .order → n .«live_timeslices» ≡ m .«live_timeslices» → n .«live_threads» ≡ m .«live_threads»
       → liveThreads (n .threads) ≡ liveThreads (m .threads) → length (n .threads) ≡ length (m .threads) → length (n .timeslices) ≡ length (m .timeslices)
-      → 0 < looks → k ≡ links + c .links → Look (stateOf m live order) t c v → stateOf n live order ≡ s
+      → Ranked (n .timeslices) order live after ranks → 0 < looks → k ≡ links + c .links → Look (stateOf m live order) t c v → stateOf n live order ≡ s
       → decide (λ u. chooseFrom (looks - 1) u) links (stateOf m live order) t c v ≡ chooseFrom (looks - 1) (record { state = s; links = links + c .links })
-      → Choosing first start live lives order n k (looks - 1)
-  again n k t c v s o tn ln lv lths lts left e l shows′ step =
+      → Choosing first start live lives order n k (looks - 1) after ranks
+  again n after k t c v s o tn ln lv lths lts r left e l shows′ step =
       let one : looks ≡ suc (looks - 1) = omega arith in
       let most : c .links ≤ 128 = rw (l .chain) (walk-links (m .threads) (ownerAt (map sliceOf (m .timeslices)) t) (w .threads)) in
       let rest′ : chooseFrom (suc (looks - 1)) (record { state = stateOf m live order; links = links }) ≡ choose (before first start) = rw one at (w .rest) in
@@ -177,8 +188,10 @@ module _ (first : Machine) (start live lives : ℕ) (order : List ℕ) (m : Mach
         turned = tn ∙ w .turned;
         counted = ln ∙ w .counted;
         fits = w .fits;
+        entries = w .entries;
         threads = lths ∙ w .threads;
         timeslices = lts ∙ w .timeslices;
+        ranked = r;
         few = omega (arith, w .few);
         rest = rw (e, shows′) (sym step ∙ looks-at (looks - 1) links (stateOf m live order) t c v l ∙ rest′);
       }
@@ -198,23 +211,26 @@ module _ (first : Machine) (start live lives : ℕ) (order : List ℕ) (m : Mach
       ends Nothing links (rw one (looks-empty (looks - 1) links (stateOf m live order) (sym e ∙ ap found is)))
 
   -- it waits, or its chain is a loop: it is put aside
-  pub waits-at : (t k : ℕ) (c : Chain) (ts : List Timeslice) → 0 < looks → k ≡ links + c .links → Look (stateOf m live order) t c waits
+  pub waits-at : (t k : ℕ) (c : Chain) (ts : List Timeslice) (after : List ℕ) → 0 < looks → k ≡ links + c .links → Look (stateOf m live order) t c waits
       → Replaced (m .timeslices) (placesAfter (behind t) (map sliceOf (m .timeslices)) (take live order) (set (map placeOf (m .timeslices)) t (On (c .end)))) ts
-      → Choosing first start live lives order (record { threads = m .threads; timeslices = ts; order = m .order; «live_threads» = m .«live_threads»; «live_timeslices» = m .«live_timeslices»; running = m .running }) k (looks - 1)
-  waits-at t k c ts left e l r =
-      again _ k t c waits _ refl refl refl refl refl (as-many _ ts _ r) left e l (parks m live order t (On (c .end)) ts r) refl
+      → Ranked ts order live after ranks
+      → Choosing first start live lives order (record { threads = m .threads; timeslices = ts; order = m .order; «live_threads» = m .«live_threads»; «live_timeslices» = m .«live_timeslices»; running = m .running }) k (looks - 1) after ranks
+  waits-at t k c ts after left e l r kept =
+      again _ after k t c waits _ refl refl refl refl refl (as-many _ ts _ r) kept left e l (parks m live order t (On (c .end)) ts r) refl
 
-  pub stalls-at : (t k : ℕ) (c : Chain) (ts : List Timeslice) → 0 < looks → k ≡ links + c .links → Look (stateOf m live order) t c stalls
+  pub stalls-at : (t k : ℕ) (c : Chain) (ts : List Timeslice) (after : List ℕ) → 0 < looks → k ≡ links + c .links → Look (stateOf m live order) t c stalls
       → Replaced (m .timeslices) (placesAfter (behind t) (map sliceOf (m .timeslices)) (take live order) (set (map placeOf (m .timeslices)) t Stalled)) ts
-      → Choosing first start live lives order (record { threads = m .threads; timeslices = ts; order = m .order; «live_threads» = m .«live_threads»; «live_timeslices» = m .«live_timeslices»; running = m .running }) k (looks - 1)
-  stalls-at t k c ts left e l r =
-      again _ k t c stalls _ refl refl refl refl refl (as-many _ ts _ r) left e l (parks m live order t Stalled ts r) refl
+      → Ranked ts order live after ranks
+      → Choosing first start live lives order (record { threads = m .threads; timeslices = ts; order = m .order; «live_threads» = m .«live_threads»; «live_timeslices» = m .«live_timeslices»; running = m .running }) k (looks - 1) after ranks
+  stalls-at t k c ts after left e l r kept =
+      again _ after k t c stalls _ refl refl refl refl refl (as-many _ ts _ r) kept left e l (parks m live order t Stalled ts r) refl
 
   -- the retry is made
-  pub retries-at : (t k : ℕ) (c : Chain) (ths : List Thread) (ts : List Timeslice) → 0 < looks → k ≡ links + c .links → Look (stateOf m live order) t c retries
+  pub retries-at : (t k : ℕ) (c : Chain) (ths : List Thread) (ts : List Timeslice) (after : List ℕ) → 0 < looks → k ≡ links + c .links → Look (stateOf m live order) t c retries
       → ths ≡ donate (c .helper) (c .end) (m .threads)
       → Replaced (m .timeslices) (placesAfter (onThread (c .end)) (map sliceOf (m .timeslices)) (take live order) (map placeOf (m .timeslices))) ts
-      → Choosing first start live lives order (record { threads = ths; timeslices = ts; order = m .order; «live_threads» = m .«live_threads»; «live_timeslices» = m .«live_timeslices»; running = m .running }) k (looks - 1)
-  retries-at t k c ths ts left e l d r =
-      again _ k t c retries _ refl refl refl (ap liveThreads d ∙ live-donate (c .helper) (c .end) (m .threads)) (ap length d ∙ length-donate (c .helper) (c .end) (m .threads))
-      (as-many _ ts _ r) left e l (retries-to m live order c ths ts d r) refl
+      → Ranked ts order live after ranks
+      → Choosing first start live lives order (record { threads = ths; timeslices = ts; order = m .order; «live_threads» = m .«live_threads»; «live_timeslices» = m .«live_timeslices»; running = m .running }) k (looks - 1) after ranks
+  retries-at t k c ths ts after left e l d r kept =
+      again _ after k t c retries _ refl refl refl (ap liveThreads d ∙ live-donate (c .helper) (c .end) (m .threads)) (ap length d ∙ length-donate (c .helper) (c .end) (m .threads))
+      (as-many _ ts _ r) kept left e l (retries-to m live order c ths ts d r) refl

@@ -2,6 +2,7 @@ pub mod Tables
 pub mod Walks
 pub mod Searches
 pub mod Releases
+pub mod Rankings
 pub mod Tests
 pub mod Stored
 pub mod Choices

@@ -6,9 +6,10 @@ use mathlib.Core.Bool.{Bool, true, false, cond}
 use mathlib.Core.Option.{Option, none, some}
 use native.Mathlib.Omega.{arith}
 use lib.ListN.{length, getD, take, drop}
-use lib.Dec.{ltb}
+use lib.Dec.{ltb, eqb}
 use borrow.Author.Tests.{ltb-true, ltb-false, lt-ltb, le-ltb}
 use Rattle.rules.specs.declared.Place.{Place}
+use Rattle.rules.specs.declared.Place.the-variants.{Queue, Behind, On, Stalled}
 use Rattle.rules.specs.declared.Timeslice.{Timeslice}
 use Rattle.rules.specs.State.{Slice, priorityAt, placeAt}
 use Rattle.rules.specs.Order.{topmost, upper}
@@ -16,9 +17,28 @@ use Rattle.dispatcher.specs.declared.order.Best.{Best}
 use Rattle.dispatcher.specs.declared.order.Found.{Found}
 use Rattle.dispatcher.specs.declared.order.Found.the-variants.{Nothing, At}
 use Rattle.dispatcher.specs.Shown.{sliceOf, placeOf, freeTimeslice}
-use Rattle.dispatcher.specs.Sets.{setOf, found}
+use Rattle.dispatcher.specs.Sets.{setOf, found, kindOf, numberOf}
 use Rattle.dispatcher.specs.Search.{bestOf, better, weighed}
 use Rattle.dispatcher.proofs.Tables.{slice-at, place-at, turn, turns-out}
+
+-- two places are the same where kind and number are
+pub same-place : (place set : Place) → setOf set place ≡ cond (eqb (kindOf place) (kindOf set)) (eqb (numberOf place) (numberOf set)) false
+same-place Queue Queue = refl
+same-place Queue (Behind u) = refl
+same-place Queue (On m) = refl
+same-place Queue Stalled = refl
+same-place (Behind t) Queue = refl
+same-place (Behind t) (Behind u) = refl
+same-place (Behind t) (On m) = refl
+same-place (Behind t) Stalled = refl
+same-place (On n) Queue = refl
+same-place (On n) (Behind u) = refl
+same-place (On n) (On m) = refl
+same-place (On n) Stalled = refl
+same-place Stalled Queue = refl
+same-place Stalled (Behind u) = refl
+same-place Stalled (On m) = refl
+same-place Stalled Stalled = refl
 
 abbrev scoreOf : List Slice → Option ℕ → ℕ
 scoreOf ss none = 0

@@ -2,6 +2,7 @@ pub mod Shown
 pub mod Sets
 pub mod Search
 pub mod Releasing
+pub mod Ranking
 pub mod Choosing
 pub mod Promise
 pub mod Turning

@@ -8,14 +8,16 @@ use crate::Answered;
 use crate::Machine;
 use crate::numbers::index;
 use crate::order::Found;
-use crate::order::topmost;
-use crate::release::parked;
-use crate::release::release;
+use crate::ranks::fill;
+use crate::ranks::park_ranked;
+use crate::ranks::release_ranked;
+use crate::ranks::top_of;
 use crate::threads::donated;
 use crate::walk::walk;
 use rules::Hold;
 use rules::Place;
 use rules::Running;
+use rules::Timeslice;
 
 // What the end of a chain says of its timeslice.
 pub enum Verdict {
@@ -68,10 +70,14 @@ impl Machine {
         let order = self.order;
         let mut followed = links;
         let mut looks = index(live) + 2;
+        let mut codes = [0u16; Timeslice::LIMIT];
+        let mut ranks = [0u16; Timeslice::LIMIT];
+        let timeslices = self.timeslices;
+        fill(&mut codes, &mut ranks, timeslices, order, live);
         while 0 < looks {
             looks -= 1;
-            let timeslices = self.timeslices;
-            let top = topmost(timeslices, order, live, Place::Queue);
+            // The code of Queue is 0.
+            let top = top_of(&codes, &ranks, &order, live, 0);
             match top {
                 Found::Nothing => {
                     let machine = Machine {
@@ -120,15 +126,41 @@ impl Machine {
                         Verdict::Retries => {
                             let next = donated(threads, helper, end);
                             self.threads = next;
-                            let free = release(timeslices, order, live, Place::On(end));
+                            let timeslices = self.timeslices;
+                            let free = release_ranked(
+                                &mut codes,
+                                &ranks,
+                                timeslices,
+                                order,
+                                live,
+                                Place::On(end),
+                            );
                             self.timeslices = free;
                         }
                         Verdict::Waits => {
-                            let aside = parked(timeslices, order, live, t, Place::On(end));
+                            let timeslices = self.timeslices;
+                            let aside = park_ranked(
+                                &mut codes,
+                                &ranks,
+                                timeslices,
+                                order,
+                                live,
+                                t,
+                                Place::On(end),
+                            );
                             self.timeslices = aside;
                         }
                         Verdict::Stalls => {
-                            let aside = parked(timeslices, order, live, t, Place::Stalled);
+                            let timeslices = self.timeslices;
+                            let aside = park_ranked(
+                                &mut codes,
+                                &ranks,
+                                timeslices,
+                                order,
+                                live,
+                                t,
+                                Place::Stalled,
+                            );
                             self.timeslices = aside;
                         }
                     }

@@ -7,6 +7,7 @@ mod events;
 mod methods;
 mod numbers;
 mod order;
+mod ranks;
 mod records;
 mod release;
 mod settle;

@@ -2,8 +2,8 @@
 ghost use mathlib.Core.Path.{_≡_};
 ghost use mathlib.Core.List.{map};
 ghost use Prim.Native.Nat.{_≤_};
-ghost use lib.ListN.{take, set as stored};
-ghost use Rattle.rules.specs.Release.{releasedPlace, releasedPlaces, behind};
+ghost use lib.ListN.{take};
+ghost use Rattle.rules.specs.Release.{releasedPlace, releasedPlaces};
 ghost use Rattle.dispatcher.specs.Shown.{sliceOf, placeOf};
 ghost use Rattle.dispatcher.specs.Sets.{setOf, withPlace};
 ghost use Rattle.dispatcher.specs.Releasing.{placesAfter, Replaced};
@@ -74,25 +74,4 @@ pub fn release(
         Found::Nothing => timeslices,
         Found::At(q) => released(timeslices, order, live, set, q),
     }
-}
-
-// A timeslice leaves Queue for this place, and its followers are released.
-pub fn parked(
-    mut timeslices: [Timeslice; 128],
-    order: [u8; 128],
-    live: u8,
-    t: u8,
-    place: Place,
-) -> [Timeslice; 128]
-    requires { ⌜ live ≤ 128 ⌝ }
-    ensures { λ r. ⌜ Replaced timeslices (placesAfter (behind t) (map sliceOf timeslices) (take live order) (stored (map placeOf timeslices) t place)) r ⌝ }
-{
-    let k = index(t);
-    if k < 128 {
-        let x = timeslices[k];
-        let y = Timeslice { place, ..x };
-        timeslices[k] = y;
-        return release(timeslices, order, live, Place::Behind(t));
-    }
-    release(timeslices, order, live, Place::Behind(t))
 }

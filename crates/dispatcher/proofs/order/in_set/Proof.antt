@@ -1,36 +1,12 @@
-use mathlib.Core.Path.{_≡_, refl}
-use mathlib.Core.Bool.{false, cond}
-use lib.Dec.{eqb}
-use Rattle.rules.specs.declared.Place.{Place}
-use Rattle.rules.specs.declared.Place.the-variants.{Queue, Behind, On, Stalled}
-use Rattle.dispatcher.specs.Sets.{setOf, kindOf, numberOf}
 use borrow.Author.Tests.{eq-eqb, ne-eqb}
 use borrow.Author.Needs.{needs}
+use Rattle.dispatcher.proofs.Searches.{same-place}
 use Rattle.dispatcher.proofs.order.in_set.Statement.{statement}
 use Rattle.dispatcher.proofs.order.in_set.Tie as tie
 use Rattle.dispatcher.proofs.order.in_set.Reads as reads
 use Rattle.dispatcher.proofs.order.in_set.Lts as lts
 use Rattle.dispatcher.proofs.order.kind.Reads as kind-reads
 use Rattle.dispatcher.proofs.order.number.Reads as number-reads
-
--- two places are the same where kind and number are
-same : (place set : Place) → setOf set place ≡ cond (eqb (kindOf place) (kindOf set)) (eqb (numberOf place) (numberOf set)) false
-same Queue Queue = refl
-same Queue (Behind u) = refl
-same Queue (On m) = refl
-same Queue Stalled = refl
-same (Behind t) Queue = refl
-same (Behind t) (Behind u) = refl
-same (Behind t) (On m) = refl
-same (Behind t) Stalled = refl
-same (On n) Queue = refl
-same (On n) (Behind u) = refl
-same (On n) (On m) = refl
-same (On n) Stalled = refl
-same Stalled Queue = refl
-same Stalled (Behind u) = refl
-same Stalled (On m) = refl
-same Stalled Stalled = refl
 
 kind-requires : tie.Need-kind-requires
 kind-requires c κs = search needs
@@ -45,10 +21,10 @@ number-requires-2 : tie.Need-number-requires-2
 number-requires-2 c κs = search needs
 
 returns : tie.Need-returns
-returns c = simp (same, ← c .before .before .before .before .kind .ensures, ← c .before .before .before .kind2 .ensures, ← c .before .number .ensures, ← c .number2 .ensures, eq-eqb _ _ (c .before .before .if1 .taken))
+returns c = simp (same-place, ← c .before .before .before .before .kind .ensures, ← c .before .before .before .kind2 .ensures, ← c .before .number .ensures, ← c .number2 .ensures, eq-eqb _ _ (c .before .before .if1 .taken))
 
 returns-2 : tie.Need-returns-2
-returns-2 c = simp (same, ← c .before .before .kind .ensures, ← c .before .kind2 .ensures, ne-eqb _ _ (c .if1 .left))
+returns-2 c = simp (same-place, ← c .before .before .kind .ensures, ← c .before .kind2 .ensures, ne-eqb _ _ (c .if1 .left))
 
 pub in-set-spec : {M : Type 1} → statement M
 in-set-spec =

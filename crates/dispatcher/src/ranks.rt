@@ -1,0 +1,243 @@
+// The live timeslices in turn order as numbers, for the length of one choice. A choice searches many times, and a search through an array of
+// numbers is compiled to vector instructions, where a search through the timeslices is not.
+ghost use mathlib.Core.Path.{_≡_};
+ghost use mathlib.Core.Bool.{false};
+ghost use mathlib.Core.List.{map};
+ghost use Prim.Native.Nat.{_≤_, _<_};
+ghost use lib.ListN.{length, take, set as stored};
+ghost use Rattle.rules.specs.declared.Place.the-variants.{Queue};
+ghost use Rattle.rules.specs.Release.{behind};
+ghost use Rattle.dispatcher.specs.Shown.{sliceOf, placeOf};
+ghost use Rattle.dispatcher.specs.Sets.{setOf, found};
+ghost use Rattle.dispatcher.specs.Releasing.{placesAfter, Replaced};
+ghost use Rattle.dispatcher.specs.Ranking.{codeOf, rankOf, turnOf, weight as weightOf, higher as higherOf, highest as highestOf};
+ghost use Rattle.dispatcher.specs.Ranking.{topOf, parkedCode, releasedCode, Changed, Ranked};
+use crate::numbers::index;
+use crate::order::Found;
+use crate::order::kind;
+use crate::order::number;
+use crate::release::released;
+use rules::Place;
+use rules::Timeslice;
+
+pub fn code(place: Place) -> u16
+    ensures { λ r. ⌜ r ≡ codeOf place ⌝ }
+{
+    let k = kind(place);
+    let n = number(place);
+    (k as u16) + 4 * (n as u16)
+}
+
+pub fn rank(priority: u8, i: usize) -> u16
+    requires { ⌜ i ≤ 128 ⌝ }
+    ensures { λ r. ⌜ r ≡ rankOf priority i ⌝ }
+{
+    (priority as u16) * 128 + ((128 - i) as u16)
+}
+
+pub fn turn(rank: u16) -> usize
+    requires { ⌜ 0 < rank ⌝ }
+    ensures { λ r. ⌜ r ≡ turnOf rank ⌝ }
+    ensures within { λ r. ⌜ r < 128 ⌝ }
+{
+    127 - (((rank - 1) % 128) as usize)
+}
+
+pub fn fill(
+    codes: &mut [u16; 128],
+    ranks: &mut [u16; 128],
+    timeslices: [Timeslice; 128],
+    order: [u8; 128],
+    live: u8,
+)
+    requires { ⌜ live ≤ 128 ⌝ }
+    requires { ⌜ length (now codes) ≡ 128 ⌝ }
+    requires { ⌜ length (now ranks) ≡ 128 ⌝ }
+    ensures { λ _. ⌜ Ranked timeslices order live (now (codes .exit)) (now (ranks .exit)) ⌝ }
+{
+    let n = index(live);
+    let mut next: usize = 0;
+    while next < n {
+        let i = next;
+        next += 1;
+        let t = order[i];
+        let k = index(t);
+        if k < 128 {
+            let x = timeslices[k];
+            let place = x.place;
+            let priority = x.priority;
+            codes[i] = code(place);
+            ranks[i] = rank(priority, i);
+        } else {
+            codes[i] = 0;
+            ranks[i] = rank(0, i);
+        }
+    }
+}
+
+pub fn weight(code: u16, rank: u16, set: u16) -> u16
+    ensures { λ r. ⌜ r ≡ weightOf code rank set ⌝ }
+{
+    if code == set {
+        return rank;
+    }
+    0
+}
+
+pub fn higher(best: u16, rank: u16) -> u16
+    ensures { λ r. ⌜ r ≡ higherOf best rank ⌝ }
+{
+    if best < rank {
+        return rank;
+    }
+    best
+}
+
+// The highest rank in a set, 0 where the set is empty.
+pub fn highest(codes: &[u16; 128], ranks: &[u16; 128], live: u8, set: u16) -> u16
+    requires { ⌜ live ≤ 128 ⌝ }
+    ensures { λ r. ⌜ r ≡ highestOf set (now (codes .entry)) (now (ranks .entry)) 0 live ⌝ }
+{
+    let mut best: u16 = 0;
+    let mut i = index(live);
+    while 0 < i {
+        i -= 1;
+        let c = codes[i];
+        let r = ranks[i];
+        let w = weight(c, r, set);
+        best = higher(best, w);
+    }
+    best
+}
+
+pub fn top_of(
+    codes: &[u16; 128],
+    ranks: &[u16; 128],
+    order: &[u8; 128],
+    live: u8,
+    set: u16,
+) -> Found
+    requires { ⌜ live ≤ 128 ⌝ }
+    ensures { λ r. ⌜ found r ≡ topOf (now (order .entry)) (highestOf set (now (codes .entry)) (now (ranks .entry)) 0 live) ⌝ }
+{
+    let best = highest(codes, ranks, live, set);
+    if 0 < best {
+        let i = turn(best);
+        let t = order[i];
+        return Found::At(t);
+    }
+    Found::Nothing
+}
+
+pub fn parked_code(code: u16, t: u8, parked: u8, to: u16) -> u16
+    ensures { λ r. ⌜ r ≡ parkedCode parked to t code ⌝ }
+{
+    if t == parked {
+        return to;
+    }
+    code
+}
+
+pub fn park_codes(codes: &mut [u16; 128], order: &[u8; 128], live: u8, t: u8, to: u16)
+    requires { ⌜ live ≤ 128 ⌝ }
+    requires { ⌜ length (now codes) ≡ 128 ⌝ }
+    ensures { λ _. ⌜ Changed (parkedCode t to) (now (order .entry)) live (now (codes .entry)) (now (codes .exit)) ⌝ }
+{
+    let n = index(live);
+    let mut i: usize = 0;
+    while i < n {
+        let c = codes[i];
+        let u = order[i];
+        codes[i] = parked_code(c, u, t, to);
+        i += 1;
+    }
+}
+
+// The topmost one goes to Queue, whose code is 0, the rest of the set go Behind that one.
+pub fn released_code(code: u16, t: u8, set: u16, first: u8, behind: u16) -> u16
+    ensures { λ r. ⌜ r ≡ releasedCode set first behind t code ⌝ }
+{
+    if code == set {
+        if t == first {
+            return 0;
+        }
+        return behind;
+    }
+    code
+}
+
+pub fn release_codes(
+    codes: &mut [u16; 128],
+    order: &[u8; 128],
+    live: u8,
+    set: u16,
+    first: u8,
+    behind: u16,
+)
+    requires { ⌜ live ≤ 128 ⌝ }
+    requires { ⌜ length (now codes) ≡ 128 ⌝ }
+    ensures { λ _. ⌜ Changed (releasedCode set first behind) (now (order .entry)) live (now (codes .entry)) (now (codes .exit)) ⌝ }
+{
+    let n = index(live);
+    let mut i: usize = 0;
+    while i < n {
+        let c = codes[i];
+        let u = order[i];
+        codes[i] = released_code(c, u, set, first, behind);
+        i += 1;
+    }
+}
+
+// A release of timeslices with their codes. An empty set changes nothing.
+pub fn release_ranked(
+    codes: &mut [u16; 128],
+    ranks: &[u16; 128],
+    timeslices: [Timeslice; 128],
+    order: [u8; 128],
+    live: u8,
+    set: Place,
+) -> [Timeslice; 128]
+    requires { ⌜ live ≤ 128 ⌝ }
+    requires { ⌜ setOf set Queue ≡ false ⌝ }
+    requires { ⌜ Ranked timeslices order live (now codes) (now ranks) ⌝ }
+    ensures { λ r. ⌜ Replaced timeslices (placesAfter (setOf set) (map sliceOf timeslices) (take live order) (map placeOf timeslices)) r ⌝ }
+    ensures kept { λ r. ⌜ Ranked r order live (now (codes .exit)) (now (ranks .entry)) ⌝ }
+{
+    let c = code(set);
+    let first = top_of(codes, ranks, &order, live, c);
+    match first {
+        Found::Nothing => timeslices,
+        Found::At(q) => {
+            let behind = code(Place::Behind(q));
+            release_codes(codes, &order, live, c, q, behind);
+            released(timeslices, order, live, set, q)
+        }
+    }
+}
+
+// A timeslice leaves Queue for this place, and its followers are released.
+pub fn park_ranked(
+    codes: &mut [u16; 128],
+    ranks: &[u16; 128],
+    mut timeslices: [Timeslice; 128],
+    order: [u8; 128],
+    live: u8,
+    t: u8,
+    place: Place,
+) -> [Timeslice; 128]
+    requires { ⌜ live ≤ 128 ⌝ }
+    requires { ⌜ Ranked timeslices order live (now codes) (now ranks) ⌝ }
+    ensures { λ r. ⌜ Replaced timeslices (placesAfter (behind t) (map sliceOf timeslices) (take live order) (stored (map placeOf timeslices) t place)) r ⌝ }
+    ensures kept { λ r. ⌜ Ranked r order live (now (codes .exit)) (now (ranks .entry)) ⌝ }
+{
+    let k = index(t);
+    if k < 128 {
+        let x = timeslices[k];
+        let y = Timeslice { place, ..x };
+        timeslices[k] = y;
+        let c = code(place);
+        park_codes(codes, &order, live, t, c);
+        return release_ranked(codes, ranks, timeslices, order, live, Place::Behind(t));
+    }
+    release_ranked(codes, ranks, timeslices, order, live, Place::Behind(t))
+}
