@@ -1,17 +1,19 @@
 -- The choice as a loop: what is left to choose from here is the whole choice.
-use Prim.Native.Nat.{ℕ, zero, suc, _+_, _*_, _-_, _≤_, _<_}
-use mathlib.Core.Path.{_≡_, refl, sym, _∙_, ap, subst}
-use mathlib.Core.List.{List, map}
-use mathlib.Core.Bool.{Bool, true, false, cond}
-use mathlib.Core.Option.{Option, none, some}
+use Prim.Native.Nat.{ℕ, suc, _+_, _*_, _-_, _≤_, _<_}
+use mathlib.Core.Path.{_≡_, refl, sym, _∙_, ap, ap₂, subst}
+use mathlib.Core.Logic.{⊎-elim}
+use mathlib.Core.List.{List, [], _∷_, map}
+use mathlib.Core.Bool.{true, cond}
+use mathlib.Core.Option.{none, some}
 use native.Mathlib.Omega.{arith}
-use native.Mathlib.Numerals.{add-one}
-use lib.ListN.{length, getD, set, take, length-map, length-take}
-use lib.Seq.{length-take-le}
+use lib.ListN.{length, getD, set, take, length-map}
+use lib.Seq.{length-take-le, map-set-same, set-out}
+use types.Run.{OneOf}
+use denote.Enum.Declared.{tagOf}
 use Rattle.rules.specs.declared.Hold.{Hold}
 use Rattle.rules.specs.declared.Thread.{Thread}
 use Rattle.rules.specs.declared.Place.{Place}
-use Rattle.rules.specs.declared.Place.the-variants.{Queue, On, Stalled}
+use Rattle.rules.specs.declared.Place.the-variants.{Queue, Behind, On}
 use Rattle.rules.specs.declared.Chain.{Chain}
 use Rattle.rules.specs.declared.Timeslice.{Timeslice}
 use Rattle.rules.specs.declared.Running.{Running}
@@ -22,18 +24,21 @@ use Rattle.rules.specs.Threads.{donate}
 use Rattle.rules.specs.Release.{inQueue, behind, onThread, topmostAt}
 use Rattle.rules.specs.Choice.{Outcome, park, retry, decide, look, chooseFrom, choose}
 use Rattle.dispatcher.specs.declared.Machine.{Machine}
-use Rattle.dispatcher.specs.declared.Answered.{Answered}
-use Rattle.dispatcher.specs.Shown.{sliceOf, placeOf, shown, stored}
+use Rattle.dispatcher.specs.Shown.{sliceOf, placeOf, freeTimeslice, shown, stored}
 use Rattle.dispatcher.specs.declared.order.Found.{Found}
 use Rattle.dispatcher.specs.declared.order.Found.the-variants.{At, Nothing as None}
 use Rattle.dispatcher.specs.declared.choice.Verdict.{Verdict as Said}
-use Rattle.dispatcher.specs.Sets.{found}
+use Rattle.dispatcher.specs.declared.choice.Verdict.the-variants.{Runs as RunsNow, Retries, Waits, Stalls}
+use Rattle.dispatcher.specs.Sets.{found, withPlace}
 use Rattle.dispatcher.specs.Releasing.{placesAfter, Replaced}
-use Rattle.dispatcher.specs.Ranking.{topOf, highest, Ranked}
-use Rattle.dispatcher.specs.Choosing.{verdictOf, Choosable, before, Chosen}
+use Rattle.dispatcher.specs.Ranking.{codeOf, topOf, highest, parkedCode, Changed, Ranked}
+use Rattle.dispatcher.specs.Choosing.{verdictOf, asideOf, Choosable, before, Chosen}
+use Rattle.dispatcher.proofs.choice.Verdict.{the-type}
+use Rattle.dispatcher.proofs.Tables.{map-set}
 use Rattle.dispatcher.proofs.Walks.{walk-links}
 use Rattle.dispatcher.proofs.Releases.{release-is}
-use Rattle.dispatcher.proofs.Rankings.{found-top}
+use Rattle.dispatcher.proofs.Rankings.{top-is}
+use Rattle.dispatcher.proofs.Recodings.{Freed, park-ranked}
 use Rattle.dispatcher.proofs.Stored.{live-is, turns-fit, stored-with, live-donate, length-donate}
 
 -- what a look finds: the topmost timeslice in Queue, its chain and what its end says
@@ -96,6 +101,53 @@ retries-to m live order c ths ts e r =
     let s = stateOf m live order in
     same _ _ _ _ _ _ _ _ e (r .slices) (r .places) ∙ sym (release-is (onThread (c .end)) (withThreads (donate (c .helper) (c .end) (s .threads)) s))
 
+-- a machine with other timeslices
+abbrev pub withTable : List Timeslice → Machine → Machine
+withTable ts m =
+    record { threads = m .threads; timeslices = ts; order = m .order; «live_threads» = m .«live_threads»; «live_timeslices» = m .«live_timeslices»; running = m .running }
+
+-- the machine with timeslice t at a place, before the followers of t are released
+pub record Aside (m : Machine) (live : ℕ) (order : List ℕ) (t : ℕ) (p : Place) (n : Machine) (codes ranks : List ℕ) : Type 0 where
+  pub others : n ≡ withTable (n .timeslices) m
+  pub placed : Replaced (m .timeslices) (set (map placeOf (m .timeslices)) t p) (n .timeslices)
+  pub ranked : Ranked (n .timeslices) order live codes ranks
+
+module _ (m : Machine) (live : ℕ) (order codes ranks : List ℕ) (r : Ranked (m .timeslices) order live codes ranks) (full : length (m .timeslices) ≡ 128)
+    (k t : ℕ) (e : k ≡ t) (p : Place) (n : Machine) (after : List ℕ) where
+  pub put-aside : k < 128 → n ≡ withTable (set (m .timeslices) k (withPlace p (getD (m .timeslices) k freeTimeslice))) m
+      → (c : ℕ) → c ≡ codeOf p → (parked : List ℕ) → after ≡ parked → Changed (parkedCode t c) order live codes parked
+      → Aside m live order t p n after ranks
+  put-aside inside is c coded parked kept ch =
+      let y = withPlace p (getD (m .timeslices) k freeTimeslice) in
+      rw (is, kept)
+      (record {
+        others = refl;
+        placed =
+            record {
+              slices = map-set-same sliceOf (m .timeslices) k y freeTimeslice refl;
+              places = map-set placeOf (m .timeslices) k y ∙ ap (λ (j : ℕ). set (map placeOf (m .timeslices)) j p) e;
+            };
+        ranked = park-ranked (m .timeslices) order live codes parked ranks k t c p full r e inside coded ch;
+      })
+
+  -- where t is no timeslice's number, nothing is put anywhere
+  pub none-aside : 128 ≤ k → n ≡ m → after ≡ codes → Aside m live order t p n after ranks
+  none-aside out is kept =
+      rw (is, kept)
+      (record {
+        others = refl;
+        placed = record { slices = refl; places = sym (set-out (map placeOf (m .timeslices)) t p (rw length-map (omega arith))) };
+        ranked = r;
+      })
+
+-- a timeslice that waits or whose chain is a loop is put aside
+aside-next : (go : Outcome → Outcome) (links : ℕ) (s : State) (t : ℕ) (c : Chain) (v : Said) → OneOf (2 ∷ 3 ∷ []) (tagOf the-type v)
+    → decide go links s t c (verdictOf v) ≡ go (record { state = park t (asideOf v (c .end)) s; links = links + c .links })
+aside-next go links s t c RunsNow h = absurd (⊎-elim (λ e. omega arith) (λ e. omega arith) h)
+aside-next go links s t c Retries h = absurd (⊎-elim (λ e. omega arith) (λ e. omega arith) h)
+aside-next go links s t c Waits h = refl
+aside-next go links s t c Stalls h = refl
+
 -- timeslices at other places are as many
 pub as-many : (ts us : List Timeslice) (ps : List Place) → Replaced ts ps us → length us ≡ length ts
 as-many ts us ps r = sym (length-map us sliceOf) ∙ ap length (r .slices) ∙ length-map ts sliceOf
@@ -142,7 +194,7 @@ module _ (first : Machine) (start live lives : ℕ) (order : List ℕ) (m : Mach
 
   -- the timeslice of the highest rank in Queue, whose code is 0
   pub tops-queue : (f : Found) → found f ≡ topOf order (highest 0 codes ranks 0 live) → found f ≡ topmostAt inQueue (stateOf m live order)
-  tops-queue f e = found-top (m .timeslices) order live codes ranks (w .entries) (w .fits) (w .ranked) Queue 0 f refl e
+  tops-queue f e = e ∙ top-is (m .timeslices) order live codes ranks (w .entries) (w .fits) (w .ranked) Queue
 
   shows : (r : Running) → shown (record { threads = m .threads; timeslices = m .timeslices; order = m .order; «live_threads» = m .«live_threads»; «live_timeslices» = m .«live_timeslices»; running = r })
       ≡ withRunning r (stateOf m live order)
@@ -210,27 +262,26 @@ module _ (first : Machine) (start live lives : ℕ) (order : List ℕ) (m : Mach
       let one : looks ≡ suc (looks - 1) = omega arith in
       ends Nothing links (rw one (looks-empty (looks - 1) links (stateOf m live order) (sym e ∙ ap found is)))
 
-  -- it waits, or its chain is a loop: it is put aside
-  pub waits-at : (t k : ℕ) (c : Chain) (ts : List Timeslice) (after : List ℕ) → 0 < looks → k ≡ links + c .links → Look (stateOf m live order) t c waits
-      → Replaced (m .timeslices) (placesAfter (behind t) (map sliceOf (m .timeslices)) (take live order) (set (map placeOf (m .timeslices)) t (On (c .end)))) ts
-      → Ranked ts order live after ranks
-      → Choosing first start live lives order (record { threads = m .threads; timeslices = ts; order = m .order; «live_threads» = m .«live_threads»; «live_timeslices» = m .«live_timeslices»; running = m .running }) k (looks - 1) after ranks
-  waits-at t k c ts after left e l r kept =
-      again _ after k t c waits _ refl refl refl refl refl (as-many _ ts _ r) kept left e l (parks m live order t (On (c .end)) ts r) refl
-
-  pub stalls-at : (t k : ℕ) (c : Chain) (ts : List Timeslice) (after : List ℕ) → 0 < looks → k ≡ links + c .links → Look (stateOf m live order) t c stalls
-      → Replaced (m .timeslices) (placesAfter (behind t) (map sliceOf (m .timeslices)) (take live order) (set (map placeOf (m .timeslices)) t Stalled)) ts
-      → Ranked ts order live after ranks
-      → Choosing first start live lives order (record { threads = m .threads; timeslices = ts; order = m .order; «live_threads» = m .«live_threads»; «live_timeslices» = m .«live_timeslices»; running = m .running }) k (looks - 1) after ranks
-  stalls-at t k c ts after left e l r kept =
-      again _ after k t c stalls _ refl refl refl refl refl (as-many _ ts _ r) kept left e l (parks m live order t Stalled ts r) refl
+  -- it waits, or its chain is a loop: it is put aside, and its followers are released
+  pub parks-at : (t k : ℕ) (c : Chain) (v : Said) (p : Place) (n : Machine) (coded after : List ℕ) (us : List Timeslice) → 0 < looks → k ≡ links + c .links
+      → Look (stateOf m live order) t c (verdictOf v) → OneOf (2 ∷ 3 ∷ []) (tagOf the-type v) → p ≡ asideOf v (c .end)
+      → Aside m live order t p n coded ranks → Freed (Behind t) (n .timeslices) order live us after ranks
+      → Choosing first start live lives order (withTable us n) k (looks - 1) after ranks
+  parks-at t k c v p n coded after us left e l which is a f =
+      let r : Replaced (m .timeslices) (placesAfter (behind t) (map sliceOf (m .timeslices)) (take live order) (set (map placeOf (m .timeslices)) t p)) us =
+      record {
+        slices = f .replaced .slices ∙ a .placed .slices;
+        places = f .replaced .places ∙ ap₂ (λ ss ps. placesAfter (behind t) ss (take live order) ps) (a .placed .slices) (a .placed .places);
+      } in
+      let next = aside-next (λ u. chooseFrom (looks - 1) u) links (stateOf m live order) t c v which in
+      subst (λ (o : Machine). Choosing first start live lives order o k (looks - 1) after ranks) (sym (ap (λ (o : Machine). withTable us o) (a .others)))
+      (again (withTable us m) after k t c (verdictOf v) (park t p (stateOf m live order)) refl refl refl refl refl (as-many (m .timeslices) us _ r) (f .ranked) left e l
+      (parks m live order t p us r) (next ∙ ap (λ (o : Place). chooseFrom (looks - 1) (record { state = park t o (stateOf m live order); links = links + c .links })) (sym is)))
 
   -- the retry is made
-  pub retries-at : (t k : ℕ) (c : Chain) (ths : List Thread) (ts : List Timeslice) (after : List ℕ) → 0 < looks → k ≡ links + c .links → Look (stateOf m live order) t c retries
-      → ths ≡ donate (c .helper) (c .end) (m .threads)
-      → Replaced (m .timeslices) (placesAfter (onThread (c .end)) (map sliceOf (m .timeslices)) (take live order) (map placeOf (m .timeslices))) ts
-      → Ranked ts order live after ranks
-      → Choosing first start live lives order (record { threads = ths; timeslices = ts; order = m .order; «live_threads» = m .«live_threads»; «live_timeslices» = m .«live_timeslices»; running = m .running }) k (looks - 1) after ranks
-  retries-at t k c ths ts after left e l d r kept =
+  pub retries-at : (t k : ℕ) (c : Chain) (ths : List Thread) (us : List Timeslice) (after : List ℕ) → 0 < looks → k ≡ links + c .links → Look (stateOf m live order) t c retries
+      → ths ≡ donate (c .helper) (c .end) (m .threads) → Freed (On (c .end)) (m .timeslices) order live us after ranks
+      → Choosing first start live lives order (record { threads = ths; timeslices = us; order = m .order; «live_threads» = m .«live_threads»; «live_timeslices» = m .«live_timeslices»; running = m .running }) k (looks - 1) after ranks
+  retries-at t k c ths us after left e l d f =
       again _ after k t c retries _ refl refl refl (ap liveThreads d ∙ live-donate (c .helper) (c .end) (m .threads)) (ap length d ∙ length-donate (c .helper) (c .end) (m .threads))
-      (as-many _ ts _ r) kept left e l (retries-to m live order c ths ts d r) refl
+      (as-many _ us _ (f .replaced)) (f .ranked) left e l (retries-to m live order c ths us d (f .replaced)) refl

@@ -3,6 +3,7 @@ pub mod Walks
 pub mod Searches
 pub mod Releases
 pub mod Rankings
+pub mod Recodings
 pub mod Tests
 pub mod Stored
 pub mod Choices

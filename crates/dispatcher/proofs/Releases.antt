@@ -1,6 +1,6 @@
 -- The release as a loop along the turn order: what is left to release from here gives the places of the whole.
 use Prim.Native.Nat.{ℕ, zero, suc, _+_, _≤_, _<_}
-use mathlib.Core.Path.{_≡_, refl, sym, _∙_, ap, ap₂}
+use mathlib.Core.Path.{_≡_, refl, sym, _∙_, ap}
 use mathlib.Core.List.{List, [], _∷_, map}
 use mathlib.Core.Bool.{Bool}
 use mathlib.Core.Option.{Option, none, some}
@@ -87,20 +87,3 @@ module _ (at : Place → Bool) (ss : List Slice) (order : List ℕ) (ps : List P
 
   pub somebody : (q : ℕ) → f ≡ At q → releasedPlaces at q order ps ≡ placesAfter at ss order ps
   somebody q h = ap (λ (g : Found). releasedFrom at order ps (found g)) (sym h) ∙ ap (releasedFrom at order ps) e
-
--- a timeslice is put at a place before the release, or is none
-module _ (at : Place → Bool) (ts : List Timeslice) (order : List ℕ) (k t : ℕ) (p : Place) (after : List Timeslice) where
-  pub put : k ≡ t
-      → Replaced (set ts k (withPlace p (getD ts k freeTimeslice))) (placesAfter at (map sliceOf (set ts k (withPlace p (getD ts k freeTimeslice)))) order (map placeOf (set ts k (withPlace p (getD ts k freeTimeslice))))) after
-      → Replaced ts (placesAfter at (map sliceOf ts) order (set (map placeOf ts) t p)) after
-  put e r =
-      let y = withPlace p (getD ts k freeTimeslice) in
-      let slices : map sliceOf (set ts k y) ≡ map sliceOf ts = map-set-same sliceOf ts k y freeTimeslice refl in
-      let places : map placeOf (set ts k y) ≡ set (map placeOf ts) t p = map-set placeOf ts k y ∙ ap (λ (j : ℕ). set (map placeOf ts) j p) e in
-      record { slices = r .slices ∙ slices; places = r .places ∙ ap₂ (λ ss ps. placesAfter at ss order ps) slices places }
-
-  pub put-none : length ts ≡ 128 → k ≡ t → 128 ≤ k → Replaced ts (placesAfter at (map sliceOf ts) order (map placeOf ts)) after
-      → Replaced ts (placesAfter at (map sliceOf ts) order (set (map placeOf ts) t p)) after
-  put-none full e out r =
-      let same = set-out (map placeOf ts) t p (rw length-map (omega arith)) in
-      record { slices = r .slices; places = r .places ∙ ap (placesAfter at (map sliceOf ts) order) (sym same) }

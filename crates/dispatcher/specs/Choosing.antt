@@ -2,6 +2,8 @@
 use Prim.Native.Nat.{ℕ, _≤_}
 use mathlib.Core.Path.{_≡_}
 use mathlib.Core.Bool.{true}
+use Rattle.rules.specs.declared.Place.{Place}
+use Rattle.rules.specs.declared.Place.the-variants.{On, Stalled}
 use Rattle.rules.specs.Walk.{runs, retries, waits, stalls}
 use Rattle.rules.specs.Walk as walks
 use Rattle.rules.specs.Choice.{Outcome, choose}
@@ -17,6 +19,13 @@ verdictOf Runs = runs
 verdictOf Retries = retries
 verdictOf Waits = waits
 verdictOf Stalls = stalls
+
+-- where a timeslice that may not run is put aside
+abbrev pub asideOf : Verdict → ℕ → Place
+asideOf Runs end = On end
+asideOf Retries end = On end
+asideOf Waits end = On end
+asideOf Stalls end = Stalled
 
 -- a machine from which a choice is made, after these links
 pub record Choosable (m : Machine) (links : ℕ) : Type 0 where

@@ -7,8 +7,11 @@ use mathlib.Core.Option.{Option, none, some}
 use lib.ListN.{length, getD}
 use lib.Dec.{ltb, eqb}
 use Rattle.rules.specs.declared.Place.{Place}
+use Rattle.rules.specs.declared.Place.the-variants.{Behind}
 use Rattle.rules.specs.declared.Timeslice.{Timeslice}
 use Rattle.rules.specs.State.{placeAt, priorityAt}
+use Rattle.dispatcher.specs.declared.order.Found.{Found}
+use Rattle.dispatcher.specs.declared.order.Found.the-variants.{Nothing, At}
 use Rattle.dispatcher.specs.Shown.{sliceOf, placeOf}
 use Rattle.dispatcher.specs.Sets.{kindOf, numberOf}
 
@@ -53,6 +56,11 @@ releasedCode set first behind t code = cond (eqb code set) (cond (eqb t first) 0
 pub record Changed (change : ℕ → ℕ → ℕ) (order : List ℕ) (live : ℕ) (before after : List ℕ) : Type 0 where
   pub full : length after ≡ 128
   pub each : (i : ℕ) → i < live → getD after i 0 ≡ change (getD order i 0) (getD before i 0)
+
+-- the codes after the release of a set whose topmost timeslice is this one
+abbrev pub ReleasedCodes : Place → List ℕ → ℕ → List ℕ → List ℕ → Found → Type 0
+ReleasedCodes set order live before after Nothing = after ≡ before
+ReleasedCodes set order live before after (At q) = Changed (releasedCode (codeOf set) q (codeOf (Behind q))) order live before after
 
 -- codes and ranks are those of the timeslices
 pub record Ranked (ts : List Timeslice) (order : List ℕ) (live : ℕ) (codes ranks : List ℕ) : Type 0 where

@@ -3,15 +3,17 @@ ghost use mathlib.Core.Path.{_≡_};
 ghost use mathlib.Core.Bool.{cond};
 ghost use Prim.Native.Nat.{_+_, _≤_};
 ghost use Rattle.rules.specs.Walk.{atEnd, stalls};
-ghost use Rattle.dispatcher.specs.Choosing.{verdictOf, Choosable, Chosen};
+ghost use Rattle.dispatcher.specs.Choosing.{verdictOf, asideOf, Choosable, Chosen};
 use crate::Answered;
 use crate::Machine;
 use crate::numbers::index;
 use crate::order::Found;
+use crate::ranks::code;
 use crate::ranks::fill;
-use crate::ranks::park_ranked;
-use crate::ranks::release_ranked;
+use crate::ranks::park_codes;
+use crate::ranks::release_set;
 use crate::ranks::top_of;
+use crate::release::released;
 use crate::threads::donated;
 use crate::walk::walk;
 use rules::Hold;
@@ -51,6 +53,18 @@ pub fn judged(looped: bool, hold: Hold, links: u8) -> Verdict
         return Verdict::Stalls;
     }
     at_end(hold, links)
+}
+
+// Where a timeslice that may not run is put aside.
+pub fn aside(verdict: Verdict, end: u8) -> Place
+    ensures { λ r. ⌜ r ≡ asideOf verdict end ⌝ }
+{
+    match verdict {
+        Verdict::Runs => Place::On(end),
+        Verdict::Retries => Place::On(end),
+        Verdict::Waits => Place::On(end),
+        Verdict::Stalls => Place::Stalled,
+    }
 }
 
 pub fn added(links: u16, more: u8) -> u16
@@ -126,42 +140,37 @@ impl Machine {
                         Verdict::Retries => {
                             let next = donated(threads, helper, end);
                             self.threads = next;
-                            let timeslices = self.timeslices;
-                            let free = release_ranked(
-                                &mut codes,
-                                &ranks,
-                                timeslices,
-                                order,
-                                live,
-                                Place::On(end),
-                            );
-                            self.timeslices = free;
+                            let waiters = Place::On(end);
+                            let first = release_set(&mut codes, &ranks, &order, live, waiters);
+                            match first {
+                                Found::Nothing => {}
+                                Found::At(q) => {
+                                    let timeslices = self.timeslices;
+                                    let free = released(timeslices, order, live, waiters, q);
+                                    self.timeslices = free;
+                                }
+                            }
                         }
-                        Verdict::Waits => {
-                            let timeslices = self.timeslices;
-                            let aside = park_ranked(
-                                &mut codes,
-                                &ranks,
-                                timeslices,
-                                order,
-                                live,
-                                t,
-                                Place::On(end),
-                            );
-                            self.timeslices = aside;
-                        }
-                        Verdict::Stalls => {
-                            let timeslices = self.timeslices;
-                            let aside = park_ranked(
-                                &mut codes,
-                                &ranks,
-                                timeslices,
-                                order,
-                                live,
-                                t,
-                                Place::Stalled,
-                            );
-                            self.timeslices = aside;
+                        Verdict::Waits | Verdict::Stalls => {
+                            let place = aside(said, end);
+                            if k < 128 {
+                                let x = self.timeslices[k];
+                                let y = Timeslice { place, ..x };
+                                self.timeslices[k] = y;
+                                let c = code(place);
+                                park_codes(&mut codes, &order, live, t, c);
+                            }
+                            // Leaving Queue releases its followers.
+                            let followers = Place::Behind(t);
+                            let first = release_set(&mut codes, &ranks, &order, live, followers);
+                            match first {
+                                Found::Nothing => {}
+                                Found::At(q) => {
+                                    let timeslices = self.timeslices;
+                                    let free = released(timeslices, order, live, followers, q);
+                                    self.timeslices = free;
+                                }
+                            }
                         }
                     }
                 }

@@ -1,25 +1,19 @@
 // The live timeslices in turn order as numbers, for the length of one choice. A choice searches many times, and a search through an array of
 // numbers is compiled to vector instructions, where a search through the timeslices is not.
 ghost use mathlib.Core.Path.{_≡_};
-ghost use mathlib.Core.Bool.{false};
-ghost use mathlib.Core.List.{map};
 ghost use Prim.Native.Nat.{_≤_, _<_};
-ghost use lib.ListN.{length, take, set as stored};
-ghost use Rattle.rules.specs.declared.Place.the-variants.{Queue};
-ghost use Rattle.rules.specs.Release.{behind};
-ghost use Rattle.dispatcher.specs.Shown.{sliceOf, placeOf};
-ghost use Rattle.dispatcher.specs.Sets.{setOf, found};
-ghost use Rattle.dispatcher.specs.Releasing.{placesAfter, Replaced};
+ghost use lib.ListN.{length};
+ghost use Rattle.dispatcher.specs.Sets.{found};
 ghost use Rattle.dispatcher.specs.Ranking.{codeOf, rankOf, turnOf, weight as weightOf, higher as higherOf, highest as highestOf};
-ghost use Rattle.dispatcher.specs.Ranking.{topOf, parkedCode, releasedCode, Changed, Ranked};
+ghost use Rattle.dispatcher.specs.Ranking.{topOf, parkedCode, releasedCode, Changed, ReleasedCodes, Ranked};
 use crate::numbers::index;
 use crate::order::Found;
 use crate::order::kind;
 use crate::order::number;
-use crate::release::released;
 use rules::Place;
 use rules::Timeslice;
 
+// A place as one number, different for different places.
 pub fn code(place: Place) -> u16
     ensures { λ r. ⌜ r ≡ codeOf place ⌝ }
 {
@@ -28,6 +22,7 @@ pub fn code(place: Place) -> u16
     (k as u16) + 4 * (n as u16)
 }
 
+// Larger for a timeslice that stands higher: by its priority, and among equals by the earlier entry of the turn order. Never 0.
 pub fn rank(priority: u8, i: usize) -> u16
     requires { ⌜ i ≤ 128 ⌝ }
     ensures { λ r. ⌜ r ≡ rankOf priority i ⌝ }
@@ -35,6 +30,7 @@ pub fn rank(priority: u8, i: usize) -> u16
     (priority as u16) * 128 + ((128 - i) as u16)
 }
 
+// The entry of the turn order that has this rank.
 pub fn turn(rank: u16) -> usize
     requires { ⌜ 0 < rank ⌝ }
     ensures { λ r. ⌜ r ≡ turnOf rank ⌝ }
@@ -75,6 +71,7 @@ pub fn fill(
     }
 }
 
+// A rank that is not in the set loses to every other.
 pub fn weight(code: u16, rank: u16, set: u16) -> u16
     ensures { λ r. ⌜ r ≡ weightOf code rank set ⌝ }
 {
@@ -110,6 +107,7 @@ pub fn highest(codes: &[u16; 128], ranks: &[u16; 128], live: u8, set: u16) -> u1
     best
 }
 
+// The topmost timeslice of the set that has this code.
 pub fn top_of(
     codes: &[u16; 128],
     ranks: &[u16; 128],
@@ -188,56 +186,27 @@ pub fn release_codes(
     }
 }
 
-// A release of timeslices with their codes. An empty set changes nothing.
-pub fn release_ranked(
+// The topmost timeslice of a set. The set's codes are released, and its timeslices are left to the caller, since an empty set changes none.
+pub fn release_set(
     codes: &mut [u16; 128],
     ranks: &[u16; 128],
-    timeslices: [Timeslice; 128],
-    order: [u8; 128],
+    order: &[u8; 128],
     live: u8,
     set: Place,
-) -> [Timeslice; 128]
+) -> Found
     requires { ⌜ live ≤ 128 ⌝ }
-    requires { ⌜ setOf set Queue ≡ false ⌝ }
-    requires { ⌜ Ranked timeslices order live (now codes) (now ranks) ⌝ }
-    ensures { λ r. ⌜ Replaced timeslices (placesAfter (setOf set) (map sliceOf timeslices) (take live order) (map placeOf timeslices)) r ⌝ }
-    ensures kept { λ r. ⌜ Ranked r order live (now (codes .exit)) (now (ranks .entry)) ⌝ }
+    requires { ⌜ length (now codes) ≡ 128 ⌝ }
+    ensures { λ r. ⌜ found r ≡ topOf (now (order .entry)) (highestOf (codeOf set) (now (codes .entry)) (now (ranks .entry)) 0 live) ⌝ }
+    ensures released { λ r. ⌜ ReleasedCodes set (now (order .entry)) live (now (codes .entry)) (now (codes .exit)) r ⌝ }
 {
     let c = code(set);
-    let first = top_of(codes, ranks, &order, live, c);
+    let first = top_of(codes, ranks, order, live, c);
     match first {
-        Found::Nothing => timeslices,
+        Found::Nothing => Found::Nothing,
         Found::At(q) => {
             let behind = code(Place::Behind(q));
-            release_codes(codes, &order, live, c, q, behind);
-            released(timeslices, order, live, set, q)
+            release_codes(codes, order, live, c, q, behind);
+            Found::At(q)
         }
     }
-}
-
-// A timeslice leaves Queue for this place, and its followers are released.
-pub fn park_ranked(
-    codes: &mut [u16; 128],
-    ranks: &[u16; 128],
-    mut timeslices: [Timeslice; 128],
-    order: [u8; 128],
-    live: u8,
-    t: u8,
-    place: Place,
-) -> [Timeslice; 128]
-    requires { ⌜ live ≤ 128 ⌝ }
-    requires { ⌜ Ranked timeslices order live (now codes) (now ranks) ⌝ }
-    ensures { λ r. ⌜ Replaced timeslices (placesAfter (behind t) (map sliceOf timeslices) (take live order) (stored (map placeOf timeslices) t place)) r ⌝ }
-    ensures kept { λ r. ⌜ Ranked r order live (now (codes .exit)) (now (ranks .entry)) ⌝ }
-{
-    let k = index(t);
-    if k < 128 {
-        let x = timeslices[k];
-        let y = Timeslice { place, ..x };
-        timeslices[k] = y;
-        let c = code(place);
-        park_codes(codes, &order, live, t, c);
-        return release_ranked(codes, ranks, timeslices, order, live, Place::Behind(t));
-    }
-    release_ranked(codes, ranks, timeslices, order, live, Place::Behind(t))
 }

@@ -4,12 +4,14 @@ use mathlib.Core.Logic.{⊎-elim}
 use native.Mathlib.Omega.{arith}
 use borrow.Author.Needs.{needs}
 use lib.ListN.{length-map}
+use Rattle.rules.specs.declared.Place.the-variants.{Behind, On}
 use Rattle.dispatcher.specs.declared.choice.Verdict.{Verdict as Said}
-use Rattle.dispatcher.specs.declared.choice.Verdict.the-variants.{Runs, Retries, Waits, Stalls}
+use Rattle.dispatcher.specs.declared.choice.Verdict.the-variants.{Runs, Retries}
 use Rattle.dispatcher.specs.Choosing.{verdictOf}
 use Rattle.dispatcher.proofs.Tables.{owns, owns-none, held, held-none}
 use Rattle.dispatcher.proofs.Stored.{turns-fit}
-use Rattle.dispatcher.proofs.Choices.{Choosing, begin, lives-are, tops-queue, out, Look, looked, runs-none, runs-at, waits-at, stalls-at, retries-at, stateOf}
+use Rattle.dispatcher.proofs.Recodings.{freed-none, freed-some}
+use Rattle.dispatcher.proofs.Choices.{Choosing, begin, lives-are, tops-queue, out, Look, looked, runs-none, runs-at, parks-at, retries-at, stateOf, Aside, put-aside, none-aside}
 use Rattle.dispatcher.proofs.Machine.choose.Statement.{statement}
 use Rattle.dispatcher.proofs.Machine.choose.Tie as tie
 
@@ -34,6 +36,20 @@ look c v is =
     (⊎-elim (λ o. held (m .threads) _ _ _ index3 (o .2)) (λ o. held-none (m .threads) _ _ _ (w .threads) index3 (o .0 .left) (o .1)) (c .before .if2 .came))
     (c .judged .ensures)
     is
+
+-- the machine with the look's timeslice put aside
+aside-at : (c : tie.Joined3 Inv-loop μ-loop)
+    → Aside (c .before .before .before .before .before .before .before .before .before .before .before .before .before .before .before .before .before .before .before .loop .self) (c .before .before .before .before .before .before .before .before .before .before .before .before .before .before .before .before .before .before .before .before .before .before .before .before .before .before .args .t1 .«live_timeslices») (c .before .before .before .before .before .before .before .before .before .before .before .before .before .before .before .before .before .before .before .before .before .before .before .before .before .before .args .t1 .order) (c .before .before .before .before .before .before .before .before .before .before .before .before .top .given .0 .0) (c .before .aside .result) (c .if3 .self) (c .if3 .codes) (c .before .before .before .before .before .before .before .before .before .before .before .before .before .before .before .before .before .before .before .before .fill .last .1 .0)
+aside-at c =
+    let m = c .before .before .before .before .before .before .before .before .before .before .before .before .before .before .before .before .before .before .before .loop .self in
+    let w = c .before .before .before .before .before .before .before .before .before .before .before .before .before .before .before .before .before .before .before .loop .inv in
+    let s = c .before .before .before .before .before .before .before .before .before .before .before .before .before .before .before .before .before .before .before .before .before .before .before .before .before .before .args .t1 in
+    let index2 = c .before .before .before .before .before .before .before .before .before .before .index2 .ensures in
+    let p = c .before .aside .result in
+    ⊎-elim
+    (λ o. put-aside m (s .«live_timeslices») (s .order) _ _ (w .ranked) (w .timeslices) _ _ index2 p (c .if3 .self) (c .if3 .codes) (o .0 .taken) (o .6) _ (o .2 .ensures) _ (o .7) (o .5 .ensures))
+    (λ o. none-aside m (s .«live_timeslices») (s .order) _ _ (w .ranked) (w .timeslices) _ _ index2 p (c .if3 .self) (c .if3 .codes) (o .0 .left) (o .1) (o .2))
+    (c .if3 .came)
 
 index-requires : tie.Need-index-requires Inv-loop μ-loop
 index-requires c κs = tt
@@ -104,38 +120,100 @@ enum-told-3 c = search needs
 donated-requires : tie.Need-donated-requires Inv-loop μ-loop
 donated-requires c κs = tt
 
-release-ranked-requires : tie.Need-release-ranked-requires Inv-loop μ-loop
-release-ranked-requires c κs = (c .before .before .before .before .before .before .before .before .before .before .before .before .before .before .before .before .before .before .before .before .before .before .loop .inv .fits, (refl, c .before .before .before .before .before .before .before .before .before .before .before .before .before .before .before .before .before .before .before .before .before .before .loop .inv .ranked))
-
-loop-less : tie.Need-loop-less Inv-loop μ-loop
-loop-less c = omega (arith, c .before .before .before .before .before .before .before .before .before .before .before .before .before .before .before .before .before .before .before .before .before .before .loop-test .taken)
-
-loop-again : tie.Need-loop-again Inv-loop μ-loop
-loop-again c = retries-at _ _ _ _ _ _ _ _ _ _ (c .before .before .before .before .before .before .before .before .before .before .before .before .before .before .before .before .before .before .before .before .before .before .before .loop .inv) _ _ _ _ _ _ (c .before .before .before .before .before .before .before .before .before .before .before .before .before .before .before .before .before .before .before .before .before .before .loop-test .taken) (c .before .before .before .before .before .before .before .before .before .before .added .ensures) (look (c .before .before .before .before .before .before .before) Retries (c .before .before .before .before .before .enum-told3 .given .1)) (c .before .before .before .before .donated .ensures) (c .release-ranked .ensures .0) (c .release-ranked .ensures .1)
+release-set-requires : tie.Need-release-set-requires Inv-loop μ-loop
+release-set-requires c κs = (c .before .before .before .before .before .before .before .before .before .before .before .before .before .before .before .before .before .before .before .before .before .before .loop .inv .fits, c .before .before .before .before .before .before .before .before .before .before .before .before .before .before .before .before .before .before .before .before .before .before .loop .inv .ranked .full)
 
 enum-told-4 : tie.Need-enum-told-4 Inv-loop μ-loop
 enum-told-4 c = search needs
 
-park-ranked-requires : tie.Need-park-ranked-requires Inv-loop μ-loop
-park-ranked-requires c κs = (c .before .before .before .before .before .before .before .before .before .before .before .before .before .before .before .before .before .before .before .before .before .loop .inv .fits, c .before .before .before .before .before .before .before .before .before .before .before .before .before .before .before .before .before .before .before .before .before .loop .inv .ranked)
+loop-less : tie.Need-loop-less Inv-loop μ-loop
+loop-less c = omega (arith, c .before .before .before .before .before .before .before .before .before .before .before .before .before .before .before .before .before .before .before .before .before .before .before .before .loop-test .taken)
+
+loop-again : tie.Need-loop-again Inv-loop μ-loop
+loop-again c =
+    let m = c .before .before .before .before .before .before .before .before .before .before .before .before .before .before .before .before .before .before .before .before .before .before .before .before .before .loop .self in
+    let w = c .before .before .before .before .before .before .before .before .before .before .before .before .before .before .before .before .before .before .before .before .before .before .before .before .before .loop .inv in
+    let s = c .before .before .before .before .before .before .before .before .before .before .before .before .before .before .before .before .before .before .before .before .before .before .before .before .before .before .before .before .before .before .before .before .args .t1 in
+    let first = c .before .before .release-set in
+    retries-at _ _ _ _ _ _ _ _ _ _ w _ _ _ _ _ _ (c .before .before .before .before .before .before .before .before .before .before .before .before .before .before .before .before .before .before .before .before .before .before .before .before .loop-test .taken) (c .before .before .before .before .before .before .before .before .before .before .before .before .added .ensures) (look (c .before .before .before .before .before .before .before .before .before) Retries (c .before .before .before .before .before .before .before .enum-told3 .given .1)) (c .before .before .before .before .before .before .donated .ensures)
+    (freed-none (m .timeslices) (s .order) (s .«live_timeslices») _ _ _ (On _) (first .result) (w .entries) (w .fits) (w .ranked) (first .ensures .0) (first .ensures .1) (c .enum-told4 .given .1))
+
+enum-known-first : tie.Need-enum-known-first Inv-loop μ-loop
+enum-known-first c = search needs
+
+released-requires : tie.Need-released-requires Inv-loop μ-loop
+released-requires c κs = c .before .before .before .before .before .before .before .before .before .before .before .before .before .before .before .before .before .before .before .before .before .before .before .before .before .before .before .loop .inv .fits
 
 loop-less-2 : tie.Need-loop-less-2 Inv-loop μ-loop
-loop-less-2 c = omega (arith, c .before .before .before .before .before .before .before .before .before .before .before .before .before .before .before .before .before .before .before .before .before .loop-test .taken)
+loop-less-2 c = omega (arith, c .before .before .before .before .before .before .before .before .before .before .before .before .before .before .before .before .before .before .before .before .before .before .before .before .before .before .before .loop-test .taken)
 
 loop-again-2 : tie.Need-loop-again-2 Inv-loop μ-loop
-loop-again-2 c = waits-at _ _ _ _ _ _ _ _ _ _ (c .before .before .before .before .before .before .before .before .before .before .before .before .before .before .before .before .before .before .before .before .before .before .loop .inv) _ _ _ _ _ (c .before .before .before .before .before .before .before .before .before .before .before .before .before .before .before .before .before .before .before .before .before .loop-test .taken) (c .before .before .before .before .before .before .before .before .before .added .ensures) (look (c .before .before .before .before .before .before) Waits (c .before .before .before .before .enum-told4 .given .1)) (c .park-ranked .ensures .0) (c .park-ranked .ensures .1)
+loop-again-2 c =
+    let m = c .before .before .before .before .before .before .before .before .before .before .before .before .before .before .before .before .before .before .before .before .before .before .before .before .before .before .before .before .loop .self in
+    let w = c .before .before .before .before .before .before .before .before .before .before .before .before .before .before .before .before .before .before .before .before .before .before .before .before .before .before .before .before .loop .inv in
+    let s = c .before .before .before .before .before .before .before .before .before .before .before .before .before .before .before .before .before .before .before .before .before .before .before .before .before .before .before .before .before .before .before .before .before .before .before .args .t1 in
+    let first = c .before .before .before .before .before .release-set in
+    retries-at _ _ _ _ _ _ _ _ _ _ w _ _ _ _ _ _ (c .before .before .before .before .before .before .before .before .before .before .before .before .before .before .before .before .before .before .before .before .before .before .before .before .before .before .before .loop-test .taken) (c .before .before .before .before .before .before .before .before .before .before .before .before .before .before .before .added .ensures) (look (c .before .before .before .before .before .before .before .before .before .before .before .before) Retries (c .before .before .before .before .before .before .before .before .before .before .enum-told3 .given .1)) (c .before .before .before .before .before .before .before .before .before .donated .ensures)
+    (freed-some (m .timeslices) (s .order) (s .«live_timeslices») _ _ _ (On _) (first .result) (w .entries) (w .fits) (w .ranked) (first .ensures .0) (first .ensures .1) _ _ refl (c .before .before .before .first .given .1) (c .released .ensures))
+
+aside-requires : tie.Need-aside-requires Inv-loop μ-loop
+aside-requires c κs = tt
+
+mul-x-2 : tie.Need-mul-x-2 Inv-loop μ-loop
+mul-x-2 c = search needs
+
+element-copy-out-x-2 : tie.Need-element-copy-out-x-2 Inv-loop μ-loop
+element-copy-out-x-2 c = search needs
+
+mul-y : tie.Need-mul-y Inv-loop μ-loop
+mul-y c = search needs
+
+element-set-from-y : tie.Need-element-set-from-y Inv-loop μ-loop
+element-set-from-y c = search needs
+
+code-requires : tie.Need-code-requires Inv-loop μ-loop
+code-requires c κs = tt
+
+park-codes-requires : tie.Need-park-codes-requires Inv-loop μ-loop
+park-codes-requires c κs = (c .before .before .before .before .before .before .before .before .before .before .before .before .before .before .before .before .before .before .before .before .before .before .before .loop .inv .fits, c .before .before .before .before .before .before .before .before .before .before .before .before .before .before .before .before .before .before .before .before .before .before .before .loop .inv .ranked .full)
+
+release-set-requires-2 : tie.Need-release-set-requires-2 Inv-loop μ-loop
+release-set-requires-2 c κs = (c .before .before .before .before .before .before .before .before .before .before .before .before .before .before .before .before .before .before .before .before .before .before .loop .inv .fits, aside-at (c .before .before .before) .ranked .full)
 
 enum-told-5 : tie.Need-enum-told-5 Inv-loop μ-loop
 enum-told-5 c = search needs
 
-park-ranked-requires-2 : tie.Need-park-ranked-requires-2 Inv-loop μ-loop
-park-ranked-requires-2 c κs = (c .before .before .before .before .before .before .before .before .before .before .before .before .before .before .before .before .before .before .before .before .before .loop .inv .fits, c .before .before .before .before .before .before .before .before .before .before .before .before .before .before .before .before .before .before .before .before .before .loop .inv .ranked)
-
 loop-less-3 : tie.Need-loop-less-3 Inv-loop μ-loop
-loop-less-3 c = omega (arith, c .before .before .before .before .before .before .before .before .before .before .before .before .before .before .before .before .before .before .before .before .before .loop-test .taken)
+loop-less-3 c = omega (arith, c .before .before .before .before .before .before .before .before .before .before .before .before .before .before .before .before .before .before .before .before .before .before .before .before .loop-test .taken)
 
 loop-again-3 : tie.Need-loop-again-3 Inv-loop μ-loop
-loop-again-3 c = stalls-at _ _ _ _ _ _ _ _ _ _ (c .before .before .before .before .before .before .before .before .before .before .before .before .before .before .before .before .before .before .before .before .before .before .loop .inv) _ _ _ _ _ (c .before .before .before .before .before .before .before .before .before .before .before .before .before .before .before .before .before .before .before .before .before .loop-test .taken) (c .before .before .before .before .before .before .before .before .before .added .ensures) (look (c .before .before .before .before .before .before) Stalls (c .before .before .before .before .enum-told5 .given .1)) (c .park-ranked2 .ensures .0) (c .park-ranked2 .ensures .1)
+loop-again-3 c =
+    let w = c .before .before .before .before .before .before .before .before .before .before .before .before .before .before .before .before .before .before .before .before .before .before .before .before .before .loop .inv in
+    let s = c .before .before .before .before .before .before .before .before .before .before .before .before .before .before .before .before .before .before .before .before .before .before .before .before .before .before .before .before .before .before .before .before .args .t1 in
+    let a = aside-at (c .before .before .before .before .before .before) in
+    let n = c .before .before .before .before .before .before .if3 .self in
+    let first = c .before .before .release-set2 in
+    parks-at _ _ _ _ _ _ _ _ _ _ w _ _ _ (c .before .before .before .before .before .before .before .before .before .judged .result) (c .before .before .before .before .before .before .before .aside .result) n _ _ _ (c .before .before .before .before .before .before .before .before .before .before .before .before .before .before .before .before .before .before .before .before .before .before .before .before .loop-test .taken) (c .before .before .before .before .before .before .before .before .before .before .before .before .added .ensures) (look (c .before .before .before .before .before .before .before .before .before) (c .before .before .before .before .before .before .before .before .before .judged .result) refl) (c .before .before .before .before .before .before .before .before .match2 .keys3) (c .before .before .before .before .before .before .before .aside .ensures) a
+    (freed-none (n .timeslices) (s .order) (s .«live_timeslices») _ _ _ (Behind _) (first .result) (w .entries) (w .fits) (a .ranked) (first .ensures .0) (first .ensures .1) (c .enum-told5 .given .1))
+
+enum-known-first-2 : tie.Need-enum-known-first-2 Inv-loop μ-loop
+enum-known-first-2 c = search needs
+
+released-requires-2 : tie.Need-released-requires-2 Inv-loop μ-loop
+released-requires-2 c κs = c .before .before .before .before .before .before .before .before .before .before .before .before .before .before .before .before .before .before .before .before .before .before .before .before .before .before .before .loop .inv .fits
+
+loop-less-4 : tie.Need-loop-less-4 Inv-loop μ-loop
+loop-less-4 c = omega (arith, c .before .before .before .before .before .before .before .before .before .before .before .before .before .before .before .before .before .before .before .before .before .before .before .before .before .before .before .loop-test .taken)
+
+loop-again-4 : tie.Need-loop-again-4 Inv-loop μ-loop
+loop-again-4 c =
+    let w = c .before .before .before .before .before .before .before .before .before .before .before .before .before .before .before .before .before .before .before .before .before .before .before .before .before .before .before .before .loop .inv in
+    let s = c .before .before .before .before .before .before .before .before .before .before .before .before .before .before .before .before .before .before .before .before .before .before .before .before .before .before .before .before .before .before .before .before .before .before .before .args .t1 in
+    let a = aside-at (c .before .before .before .before .before .before .before .before .before) in
+    let n = c .before .before .before .before .before .before .before .before .before .if3 .self in
+    let first = c .before .before .before .before .before .release-set2 in
+    parks-at _ _ _ _ _ _ _ _ _ _ w _ _ _ (c .before .before .before .before .before .before .before .before .before .before .before .before .judged .result) (c .before .before .before .before .before .before .before .before .before .before .aside .result) n _ _ _ (c .before .before .before .before .before .before .before .before .before .before .before .before .before .before .before .before .before .before .before .before .before .before .before .before .before .before .before .loop-test .taken) (c .before .before .before .before .before .before .before .before .before .before .before .before .before .before .before .added .ensures) (look (c .before .before .before .before .before .before .before .before .before .before .before .before) (c .before .before .before .before .before .before .before .before .before .before .before .before .judged .result) refl) (c .before .before .before .before .before .before .before .before .before .before .before .match2 .keys3) (c .before .before .before .before .before .before .before .before .before .before .aside .ensures) a
+    (freed-some (n .timeslices) (s .order) (s .«live_timeslices») _ _ _ (Behind _) (first .result) (w .entries) (w .fits) (a .ranked) (first .ensures .0) (first .ensures .1) _ _ refl (c .before .before .before .first2 .given .1) (c .released2 .ensures))
 
 returns-3 : tie.Need-returns-3 Inv-loop μ-loop
 returns-3 c = out _ _ _ _ _ _ _ _ _ _ (c .before .loop .inv) (c .loop-test .left)
@@ -168,15 +246,27 @@ choose-spec =
     returns-2
     enum-told-3
     donated-requires
-    release-ranked-requires
+    release-set-requires
+    enum-told-4
     loop-less
     loop-again
-    enum-told-4
-    park-ranked-requires
+    enum-known-first
+    released-requires
     loop-less-2
     loop-again-2
+    aside-requires
+    mul-x-2
+    element-copy-out-x-2
+    mul-y
+    element-set-from-y
+    code-requires
+    park-codes-requires
+    release-set-requires-2
     enum-told-5
-    park-ranked-requires-2
     loop-less-3
     loop-again-3
+    enum-known-first-2
+    released-requires-2
+    loop-less-4
+    loop-again-4
     returns-3)

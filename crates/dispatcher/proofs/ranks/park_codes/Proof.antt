@@ -1,7 +1,6 @@
-use Prim.Native.Nat.{ℕ, _-_}
-use mathlib.Core.Path.{_≡_, ap, sym, _∙_}
+use Prim.Native.Nat.{_-_}
+use mathlib.Core.Path.{_≡_, ap, _∙_}
 use native.Mathlib.Omega.{arith}
-use borrow.Author.Needs.{needs}
 use lib.ListN.{getD}
 use Rattle.dispatcher.specs.Ranking.{parkedCode}
 use Rattle.dispatcher.proofs.Rankings.{Storing, store-none, store-one}
