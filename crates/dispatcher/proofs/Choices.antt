@@ -19,7 +19,7 @@ use Rattle.rules.specs.declared.Timeslice.{Timeslice}
 use Rattle.rules.specs.declared.Running.{Running}
 use Rattle.rules.specs.declared.Running.the-variants.{Nothing, Runs}
 use Rattle.rules.specs.State.{Slice, State, ownerAt, holdAt, liveThreads, withThreads, withPlaces, withRunning}
-use Rattle.rules.specs.Walk.{walk, chainOf, atEnd, verdict, Verdict, runs, retries, waits, stalls}
+use Rattle.rules.specs.Walk.{walk, chainOf, atEnd, verdict, Verdict, runs, retries, stalls}
 use Rattle.rules.specs.Threads.{donate}
 use Rattle.rules.specs.Release.{inQueue, behind, onThread, topmostAt}
 use Rattle.rules.specs.Choice.{Outcome, park, retry, decide, look, chooseFrom, choose}

@@ -1,7 +1,7 @@
 -- The search for the topmost timeslice from the back of the turn order: the best so far is the topmost of what was gone through.
-use Prim.Native.Nat.{ℕ, zero, suc, _≤_, _<_}
+use Prim.Native.Nat.{ℕ, suc, _≤_}
 use mathlib.Core.Path.{_≡_, refl, sym, _∙_, ap}
-use mathlib.Core.List.{List, [], _∷_, map}
+use mathlib.Core.List.{List, map}
 use mathlib.Core.Bool.{Bool, true, false, cond}
 use mathlib.Core.Option.{Option, none, some}
 use native.Mathlib.Omega.{arith}
@@ -14,7 +14,6 @@ use Rattle.rules.specs.declared.Timeslice.{Timeslice}
 use Rattle.rules.specs.State.{Slice, priorityAt, placeAt}
 use Rattle.rules.specs.Order.{topmost, upper}
 use Rattle.dispatcher.specs.declared.order.Best.{Best}
-use Rattle.dispatcher.specs.declared.order.Found.{Found}
 use Rattle.dispatcher.specs.declared.order.Found.the-variants.{Nothing, At}
 use Rattle.dispatcher.specs.Shown.{sliceOf, placeOf, freeTimeslice}
 use Rattle.dispatcher.specs.Sets.{setOf, found, kindOf, numberOf}

@@ -3,14 +3,13 @@ use Prim.Native.Nat.{ℕ, zero, suc, _+_, _*_, _≤_}
 use native.Mathlib.Omega.{arith}
 use mathlib.Core.Path.{_≡_, refl, ap}
 use mathlib.Core.List.{List, [], _∷_}
-use mathlib.Core.Bool.{true, not, _||_}
+use mathlib.Core.Bool.{not, _||_}
 use lib.ListN.{length, getD, length-append}
 use lib.Dec.{ltb, eqb, lit≤}
 use Rattle.rules.specs.declared.Event.{Event}
 use Rattle.rules.specs.declared.Event.the-variants.{Create, Give, Call, Reply, Block, Wake, Charge, Abort}
 use Rattle.rules.specs.State.{State, empty}
 use Rattle.rules.specs.Events.{offer}
-use Rattle.rules.specs.Sound.{sound}
 use Rattle.rules.specs.Lists.{run}
 use Rattle.rules.specs.EventFile.{recordOf, recordsOf, fileOf, lengthField, headRefusal, recordsIn, isNone, fileRefusalAfter, fileRefusal, eventsOf}
 use Rattle.rules.specs.Key.{keyAfter, key}

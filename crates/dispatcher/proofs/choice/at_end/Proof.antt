@@ -2,8 +2,6 @@ use borrow.Author.Tests.{le-leb, le-ltb, lt-leb, lt-ltb}
 use borrow.Author.Needs.{needs}
 use Rattle.dispatcher.proofs.choice.at_end.Statement.{statement}
 use Rattle.dispatcher.proofs.choice.at_end.Tie as tie
-use Rattle.dispatcher.proofs.choice.at_end.Reads as reads
-use Rattle.dispatcher.proofs.choice.at_end.Lts as lts
 
 enum-told : tie.Need-enum-told
 enum-told c = search needs

@@ -1,9 +1,6 @@
 use borrow.Author.Needs.{needs}
 use Rattle.dispatcher.proofs.choice.judged.Statement.{statement}
 use Rattle.dispatcher.proofs.choice.judged.Tie as tie
-use Rattle.dispatcher.proofs.choice.judged.Reads as reads
-use Rattle.dispatcher.proofs.choice.judged.Lts as lts
-use Rattle.dispatcher.proofs.choice.at_end.Reads as at-end-reads
 
 returns : tie.Need-returns
 returns c = search needs

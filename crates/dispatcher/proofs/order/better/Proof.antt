@@ -2,9 +2,6 @@ use borrow.Author.Tests.{le-ltb, lt-ltb}
 use borrow.Author.Needs.{needs}
 use Rattle.dispatcher.proofs.order.better.Statement.{statement}
 use Rattle.dispatcher.proofs.order.better.Tie as tie
-use Rattle.dispatcher.proofs.order.better.Reads as reads
-use Rattle.dispatcher.proofs.order.better.Lts as lts
-use Rattle.dispatcher.proofs.order.score_of.Reads as score-of-reads
 
 score-of-requires : tie.Need-score-of-requires
 score-of-requires c κs = search needs

@@ -3,10 +3,6 @@ use borrow.Author.Needs.{needs}
 use Rattle.dispatcher.proofs.Searches.{same-place}
 use Rattle.dispatcher.proofs.order.in_set.Statement.{statement}
 use Rattle.dispatcher.proofs.order.in_set.Tie as tie
-use Rattle.dispatcher.proofs.order.in_set.Reads as reads
-use Rattle.dispatcher.proofs.order.in_set.Lts as lts
-use Rattle.dispatcher.proofs.order.kind.Reads as kind-reads
-use Rattle.dispatcher.proofs.order.number.Reads as number-reads
 
 kind-requires : tie.Need-kind-requires
 kind-requires c κs = search needs

@@ -1,16 +1,11 @@
 use Prim.Native.Nat.{_-_}
-use mathlib.Core.Path.{_≡_, refl, sym, ap, _∙_}
+use mathlib.Core.Path.{refl}
 use native.Mathlib.Omega.{arith}
-use borrow.Author.Needs.{needs}
 use borrow.Author.Tests.{eq-eqb, ne-eqb}
-use lib.Dec.{eqb}
 use Rattle.dispatcher.proofs.Along.{Along, begin, here, next, out}
 use Rattle.rules.specs.Tests.{member as memberOf}
 use Rattle.dispatcher.proofs.order.member.Statement.{statement}
 use Rattle.dispatcher.proofs.order.member.Tie as tie
-use Rattle.dispatcher.proofs.order.member.Reads as reads
-use Rattle.dispatcher.proofs.order.member.Lts as lts
-use Rattle.dispatcher.proofs.numbers.index.Reads as index-reads
 
 abbrev Inv-loop : tie.InvT-loop
 Inv-loop live t order n i₀ i = Along (λ l. memberOf t l) live order n i

@@ -1,5 +1,5 @@
 use Prim.Native.Nat.{_-_}
-use mathlib.Core.Path.{_≡_, refl, sym, ap, _∙_}
+use mathlib.Core.Path.{refl, sym, _∙_}
 use native.Mathlib.Omega.{arith}
 use borrow.Author.Needs.{needs}
 use borrow.Author.Tests.{eq-eqb, ne-eqb}
@@ -12,9 +12,6 @@ use Rattle.dispatcher.specs.Shown.{sliceOf}
 use Rattle.dispatcher.proofs.Tables.{owns, owns-none}
 use Rattle.dispatcher.proofs.order.owns_one.Statement.{statement}
 use Rattle.dispatcher.proofs.order.owns_one.Tie as tie
-use Rattle.dispatcher.proofs.order.owns_one.Reads as reads
-use Rattle.dispatcher.proofs.order.owns_one.Lts as lts
-use Rattle.dispatcher.proofs.numbers.index.Reads as index-reads
 
 abbrev Inv-loop : tie.InvT-loop
 Inv-loop live n timeslices order last i₀ i = Along (λ l. some-of (λ t. eqb (ownerAt (map sliceOf timeslices) t) n) l) live order last i

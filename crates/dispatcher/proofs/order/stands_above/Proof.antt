@@ -1,4 +1,3 @@
-use Prim.Native.Nat.{ℕ}
 use mathlib.Core.Path.{_≡_}
 use mathlib.Core.List.{map}
 use mathlib.Core.Logic.{⊎-elim}
@@ -7,7 +6,6 @@ use Rattle.dispatcher.specs.Shown.{sliceOf}
 use Rattle.dispatcher.proofs.Tables.{ranks, ranks-none}
 use Rattle.dispatcher.proofs.Above.{higher, equal, lower}
 use borrow.Author.Needs.{needs}
-use native.Mathlib.Omega.{arith}
 use Rattle.dispatcher.proofs.order.stands_above.Statement.{statement}
 use Rattle.dispatcher.proofs.order.stands_above.Tie as tie
 

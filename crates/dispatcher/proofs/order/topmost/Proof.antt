@@ -6,10 +6,6 @@ use Rattle.dispatcher.proofs.Tables.{past}
 use Rattle.dispatcher.proofs.Searches.{Swept, begin, sweep, ended, empty, topped}
 use Rattle.dispatcher.proofs.order.topmost.Statement.{statement}
 use Rattle.dispatcher.proofs.order.topmost.Tie as tie
-use Rattle.dispatcher.proofs.order.topmost.Reads as reads
-use Rattle.dispatcher.proofs.order.topmost.Lts as lts
-use Rattle.dispatcher.proofs.numbers.index.Reads as index-reads
-use Rattle.dispatcher.proofs.order.weighed.Reads as weighed-reads
 
 abbrev Inv-loop : tie.InvT-loop
 Inv-loop live set timeslices order best₀ i₀ best i = Swept timeslices set live order best i

@@ -1,10 +1,6 @@
 use borrow.Author.Needs.{needs}
 use Rattle.dispatcher.proofs.order.weighed.Statement.{statement}
 use Rattle.dispatcher.proofs.order.weighed.Tie as tie
-use Rattle.dispatcher.proofs.order.weighed.Reads as reads
-use Rattle.dispatcher.proofs.order.weighed.Lts as lts
-use Rattle.dispatcher.proofs.order.better.Reads as better-reads
-use Rattle.dispatcher.proofs.order.in_set.Reads as in-set-reads
 
 in-set-requires : tie.Need-in-set-requires
 in-set-requires c κs = search needs

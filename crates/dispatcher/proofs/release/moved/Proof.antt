@@ -2,9 +2,6 @@ use borrow.Author.Tests.{eq-eqb, ne-eqb}
 use borrow.Author.Needs.{needs}
 use Rattle.dispatcher.proofs.release.moved.Statement.{statement}
 use Rattle.dispatcher.proofs.release.moved.Tie as tie
-use Rattle.dispatcher.proofs.release.moved.Reads as reads
-use Rattle.dispatcher.proofs.release.moved.Lts as lts
-use Rattle.dispatcher.proofs.order.in_set.Reads as in-set-reads
 
 in-set-requires : tie.Need-in-set-requires
 in-set-requires c κs = search needs

@@ -1,9 +1,8 @@
-use mathlib.Core.Path.{refl, _∙_, sym}
+use mathlib.Core.Path.{refl, _∙_}
 use lib.ListN.{take}
 use Rattle.dispatcher.specs.Sets.{setOf}
 use Rattle.dispatcher.proofs.Releases.{nobody, somebody}
 use borrow.Author.Needs.{needs}
-use native.Mathlib.Omega.{arith}
 use Rattle.dispatcher.proofs.release.release.Statement.{statement}
 use Rattle.dispatcher.proofs.release.release.Tie as tie
 

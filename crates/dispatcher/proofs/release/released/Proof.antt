@@ -6,10 +6,6 @@ use Rattle.dispatcher.specs.Sets.{setOf}
 use Rattle.dispatcher.proofs.Releases.{Moving, begin, move, skip, done}
 use Rattle.dispatcher.proofs.release.released.Statement.{statement}
 use Rattle.dispatcher.proofs.release.released.Tie as tie
-use Rattle.dispatcher.proofs.release.released.Reads as reads
-use Rattle.dispatcher.proofs.release.released.Lts as lts
-use Rattle.dispatcher.proofs.numbers.index.Reads as index-reads
-use Rattle.dispatcher.proofs.release.moved.Reads as moved-reads
 
 abbrev Inv-loop : tie.InvT-loop
 Inv-loop live set first timeslices₀ order n i₀ timeslices i = (n ≡ live) × Moving (setOf set) first live order timeslices₀ timeslices i
