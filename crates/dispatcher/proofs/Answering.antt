@@ -24,11 +24,9 @@ unfolding soundMachine
 sound-shown m e = and-right (stored m) (sound (shown m)) e
 
 module _ (e : Event) (m : Machine) where
-  pub refuse : (n : ℕ) → refusal e (forget (shown m)) ≡ suc n → Answers (dispatch e (shown m)) m (record { machine = m; refusal = suc n; links = 0 })
+  pub refuse : {n : ℕ} {r : Answered} → r ≡ record { machine = m; refusal = suc n; links = 0 } → refusal e (forget (shown m)) ≡ suc n → Answers (dispatch e (shown m)) m r
   unfolding dispatch
-  refuse n h =
-      subst (λ (k : ℕ). Answers (dispatchAfter k e (shown m)) m (record { machine = m; refusal = suc n; links = 0 })) (sym h)
-      (record { refusal = refl; links = refl; state = refl; exact = refl; kept = λ _. refl })
+  refuse is h = rw (is, h) (record { refusal = refl; links = refl; state = refl; exact = refl; kept = λ _. refl })
 
   pub accept : soundMachine m ≡ true → refusal e (forget (shown m)) ≡ 0 → (w : Midway) → w ≡ midway e (shown m) → (r : Answered) → Settled (settle w) r
       → Answers (dispatch e (shown m)) m r
@@ -39,8 +37,9 @@ module _ (e : Event) (m : Machine) where
       (record { refusal = t .refusal; links = t .links; state = t .state; exact = t .exact ∙ sym (sound-stored m ok); kept = λ no. absurd (no (t .refusal)) })
 
 -- no choice
-pub stands : (m : Machine) (s : State) → shown m ≡ s → stored m ≡ true → Settled (record { state = s; links = 0 }) (record { machine = m; refusal = 0; links = 0 })
-stands m s e exact = record { refusal = refl; links = refl; state = e; exact = exact }
+pub stands : {m : Machine} {s : State} {r : Answered} → r ≡ record { machine = m; refusal = 0; links = 0 } → shown m ≡ s → stored m ≡ true
+    → Settled (record { state = s; links = 0 }) r
+stands is e exact = rw is (record { refusal = refl; links = refl; state = e; exact = exact })
 
 -- a choice from the machine that shows this state
 pub chosen : (m : Machine) (links : ℕ) (s : State) (r : Answered) → shown m ≡ s → Chosen m links r → Settled (choose (record { state = s; links = links })) r

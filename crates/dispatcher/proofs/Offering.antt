@@ -8,10 +8,10 @@ use Rattle.dispatcher.specs.declared.Answered.{Answered}
 use Rattle.dispatcher.specs.Shown.{shown, soundMachine}
 use Rattle.dispatcher.specs.Promise.{Answers}
 
-pub unsound-refused : (e : Event) (m : Machine) → soundMachine m ≡ false
-    → Answers (events.offerIf (soundMachine m) e (shown m)) m (record { machine = m; refusal = 1; links = 0 })
-unsound-refused e m h =
-    rw h (record { refusal = refl; links = refl; state = refl; exact = refl; kept = λ n. refl })
+pub unsound-refused : (e : Event) (m : Machine) (r : Answered) → r ≡ record { machine = m; refusal = 1; links = 0 } → soundMachine m ≡ false
+    → Answers (events.offerIf (soundMachine m) e (shown m)) m r
+unsound-refused e m r is h =
+    rw (is, h) (record { refusal = refl; links = refl; state = refl; exact = refl; kept = λ n. refl })
 
 pub sound-dispatched : (e : Event) (m : Machine) (r : Answered) → soundMachine m ≡ true → Answers (events.dispatch e (shown m)) m r
     → Answers (events.offerIf (soundMachine m) e (shown m)) m r

@@ -27,8 +27,9 @@ use Rattle.dispatcher.proofs.Stored.{live-is, stored-with}
 pub chose : (b : Bool) (o : Outcome) (r : Answered) → b ≡ true → Settled (choose o) r → Settled (settleIf b o) r
 chose b o r e s = rw e s
 
-pub stayed : (b : Bool) (m : Machine) → b ≡ false → stored m ≡ true → Settled (settleIf b (before m 0)) (record { machine = m; refusal = 0; links = 0 })
-stayed b m e exact = rw e (record { refusal = refl; links = refl; state = refl; exact = exact })
+pub stayed : (b : Bool) (m : Machine) (r : Answered) → r ≡ record { machine = m; refusal = 0; links = 0 } → b ≡ false → stored m ≡ true
+    → Settled (settleIf b (before m 0)) r
+stayed b m r is e exact = rw (is, e) (record { refusal = refl; links = refl; state = refl; exact = exact })
 
 -- a timeslice that joined Queue overtakes, by what runs
 pub over-nothing : (m : Machine) (q : ℕ) → m .running ≡ Nothing → overtakes (shown m) (some q) ≡ true
@@ -44,12 +45,12 @@ over-same s u q Nothing a b = refl
 over-same s u q (Runs n t count) a b = ap₂ (λ ss order. standsAbove ss order q t) a b
 
 -- nobody was On the thread
-pub none-released : (n : ℕ) (m : Machine) (f : Found) → found f ≡ topmostAt (onThread n) (shown m) → f ≡ None → stored m ≡ true
-    → Settled (settle (releases n (shown m))) (record { machine = m; refusal = 0; links = 0 })
+pub none-released : (n : ℕ) (m : Machine) (f : Found) (r : Answered) → r ≡ record { machine = m; refusal = 0; links = 0 }
+    → found f ≡ topmostAt (onThread n) (shown m) → f ≡ None → stored m ≡ true → Settled (settle (releases n (shown m))) r
 unfolding releases release
-none-released n m f e is exact =
+none-released n m f r so e is exact =
     let top : topmostAt (onThread n) (shown m) ≡ none = sym e ∙ ap found is in
-    rw top (record { refusal = refl; links = refl; state = refl; exact = exact })
+    rw (so, top) (record { refusal = refl; links = refl; state = refl; exact = exact })
 
 -- the topmost one joined Queue
 module _ (n : ℕ) (m : Machine) (f : Found) (q : ℕ) (ts : List Timeslice) (e : found f ≡ topmostAt (onThread n) (shown m)) (is : f ≡ At q)

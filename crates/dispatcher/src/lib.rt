@@ -54,4 +54,15 @@ impl Machine {
             running: Running::Nothing,
         }
     }
+
+    // The answer with the machine as it is now.
+    pub(crate) fn answered(self, refusal: u8, links: u16) -> Answered
+        ensures { λ r. ⌜ r ≡ record { machine = self; refusal = refusal; links = links } ⌝ }
+    {
+        Answered {
+            machine: self,
+            refusal,
+            links,
+        }
+    }
 }

@@ -12,11 +12,7 @@ impl Machine {
         ensures { λ r. ⌜ Answers (offerIf (soundMachine self) (Create thread role) (shown self)) self r ⌝ }
     {
         if !self.is_sound() {
-            return Answered {
-                machine: self,
-                refusal: 1,
-                links: 0,
-            };
+            return self.answered(1, 0);
         }
         self.dispatch_create(thread, role)
     }
@@ -25,11 +21,7 @@ impl Machine {
         ensures { λ r. ⌜ Answers (offerIf (soundMachine self) (Give timeslice thread priority quantum) (shown self)) self r ⌝ }
     {
         if !self.is_sound() {
-            return Answered {
-                machine: self,
-                refusal: 1,
-                links: 0,
-            };
+            return self.answered(1, 0);
         }
         self.dispatch_give(timeslice, thread, priority, quantum)
     }
@@ -38,11 +30,7 @@ impl Machine {
         ensures { λ r. ⌜ Answers (offerIf (soundMachine self) (Call server) (shown self)) self r ⌝ }
     {
         if !self.is_sound() {
-            return Answered {
-                machine: self,
-                refusal: 1,
-                links: 0,
-            };
+            return self.answered(1, 0);
         }
         self.dispatch_call(server)
     }
@@ -51,11 +39,7 @@ impl Machine {
         ensures { λ r. ⌜ Answers (offerIf (soundMachine self) Reply (shown self)) self r ⌝ }
     {
         if !self.is_sound() {
-            return Answered {
-                machine: self,
-                refusal: 1,
-                links: 0,
-            };
+            return self.answered(1, 0);
         }
         self.dispatch_reply()
     }
@@ -64,11 +48,7 @@ impl Machine {
         ensures { λ r. ⌜ Answers (offerIf (soundMachine self) Block (shown self)) self r ⌝ }
     {
         if !self.is_sound() {
-            return Answered {
-                machine: self,
-                refusal: 1,
-                links: 0,
-            };
+            return self.answered(1, 0);
         }
         self.dispatch_block()
     }
@@ -77,11 +57,7 @@ impl Machine {
         ensures { λ r. ⌜ Answers (offerIf (soundMachine self) (Wake thread) (shown self)) self r ⌝ }
     {
         if !self.is_sound() {
-            return Answered {
-                machine: self,
-                refusal: 1,
-                links: 0,
-            };
+            return self.answered(1, 0);
         }
         self.dispatch_wake(thread)
     }
@@ -90,11 +66,7 @@ impl Machine {
         ensures { λ r. ⌜ Answers (offerIf (soundMachine self) (Charge units) (shown self)) self r ⌝ }
     {
         if !self.is_sound() {
-            return Answered {
-                machine: self,
-                refusal: 1,
-                links: 0,
-            };
+            return self.answered(1, 0);
         }
         self.dispatch_charge(units)
     }
@@ -103,11 +75,7 @@ impl Machine {
         ensures { λ r. ⌜ Answers (offerIf (soundMachine self) (Abort thread) (shown self)) self r ⌝ }
     {
         if !self.is_sound() {
-            return Answered {
-                machine: self,
-                refusal: 1,
-                links: 0,
-            };
+            return self.answered(1, 0);
         }
         self.dispatch_abort(thread)
     }

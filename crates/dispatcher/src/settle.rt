@@ -32,11 +32,7 @@ impl Machine {
                 if stands_above(timeslices, order, live, q, t) {
                     return self.choose(0);
                 }
-                Answered {
-                    machine: self,
-                    refusal: 0,
-                    links: 0,
-                }
+                self.answered(0, 0)
             }
         }
     }
@@ -51,11 +47,7 @@ impl Machine {
         let live = self.live_timeslices;
         let first = topmost(timeslices, order, live, Place::On(n));
         match first {
-            Found::Nothing => Answered {
-                machine: self,
-                refusal: 0,
-                links: 0,
-            },
+            Found::Nothing => self.answered(0, 0),
             Found::At(q) => {
                 let free = released(timeslices, order, live, Place::On(n), q);
                 self.timeslices = free;

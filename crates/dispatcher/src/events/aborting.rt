@@ -60,28 +60,16 @@ impl Machine {
         ensures { λ r. ⌜ Answers (dispatch (Abort n) (shown self)) self r ⌝ }
     {
         if 127 < n {
-            return Answered {
-                machine: self,
-                refusal: 2,
-                links: 0,
-            };
+            return self.answered(2, 0);
         }
         let k = index(n);
         let thread = self.threads[k];
         if !thread.live {
-            return Answered {
-                machine: self,
-                refusal: 4,
-                links: 0,
-            };
+            return self.answered(4, 0);
         }
         let hold = thread.hold;
         if !is_linked(hold) {
-            return Answered {
-                machine: self,
-                refusal: 10,
-                links: 0,
-            };
+            return self.answered(10, 0);
         }
         self.abort_walks(n, hold)
     }

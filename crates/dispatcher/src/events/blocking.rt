@@ -20,11 +20,7 @@ impl Machine {
     {
         let running = self.running;
         match running {
-            Running::Nothing => Answered {
-                machine: self,
-                refusal: 5,
-                links: 0,
-            },
+            Running::Nothing => self.answered(5, 0),
             Running::Runs {
                 thread: n,
                 timeslice: _,
@@ -43,28 +39,16 @@ impl Machine {
         ensures { λ r. ⌜ Answers (dispatch (Wake n) (shown self)) self r ⌝ }
     {
         if 127 < n {
-            return Answered {
-                machine: self,
-                refusal: 2,
-                links: 0,
-            };
+            return self.answered(2, 0);
         }
         let k = index(n);
         let thread = self.threads[k];
         if !thread.live {
-            return Answered {
-                machine: self,
-                refusal: 4,
-                links: 0,
-            };
+            return self.answered(4, 0);
         }
         let hold = thread.hold;
         if !is_blocked(hold) {
-            return Answered {
-                machine: self,
-                refusal: 9,
-                links: 0,
-            };
+            return self.answered(9, 0);
         }
         let threads = self.threads;
         let next = with_hold(threads, n, Hold::Ready);

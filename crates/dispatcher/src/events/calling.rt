@@ -55,46 +55,26 @@ impl Machine {
     {
         let running = self.running;
         match running {
-            Running::Nothing => Answered {
-                machine: self,
-                refusal: 5,
-                links: 0,
-            },
+            Running::Nothing => self.answered(5, 0),
             Running::Runs {
                 thread: caller,
                 timeslice: t,
                 count,
             } => {
                 if 127 < server {
-                    return Answered {
-                        machine: self,
-                        refusal: 2,
-                        links: 0,
-                    };
+                    return self.answered(2, 0);
                 }
                 let k = index(server);
                 let thread = self.threads[k];
                 if !thread.live {
-                    return Answered {
-                        machine: self,
-                        refusal: 4,
-                        links: 0,
-                    };
+                    return self.answered(4, 0);
                 }
                 let role = thread.role;
                 if !is_server(role) {
-                    return Answered {
-                        machine: self,
-                        refusal: 6,
-                        links: 0,
-                    };
+                    return self.answered(6, 0);
                 }
                 if server == caller {
-                    return Answered {
-                        machine: self,
-                        refusal: 7,
-                        links: 0,
-                    };
+                    return self.answered(7, 0);
                 }
                 let hold = thread.hold;
                 if is_idle(hold) {
@@ -120,11 +100,7 @@ impl Machine {
                         count: count - 1,
                     };
                     let machine = Machine { running, ..self };
-                    return Answered {
-                        machine,
-                        refusal: 0,
-                        links: 0,
-                    };
+                    return machine.answered(0, 0);
                 }
                 self.choose(0)
             }
@@ -138,11 +114,7 @@ impl Machine {
     {
         let running = self.running;
         match running {
-            Running::Nothing => Answered {
-                machine: self,
-                refusal: 5,
-                links: 0,
-            },
+            Running::Nothing => self.answered(5, 0),
             Running::Runs {
                 thread: server,
                 timeslice: t,
@@ -150,20 +122,12 @@ impl Machine {
             } => {
                 let k = index(server);
                 if 128 <= k {
-                    return Answered {
-                        machine: self,
-                        refusal: 8,
-                        links: 0,
-                    };
+                    return self.answered(8, 0);
                 }
                 let thread = self.threads[k];
                 let role = thread.role;
                 if !is_server(role) {
-                    return Answered {
-                        machine: self,
-                        refusal: 8,
-                        links: 0,
-                    };
+                    return self.answered(8, 0);
                 }
                 let service = thread.service;
                 let threads = self.threads;

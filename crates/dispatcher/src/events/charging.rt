@@ -48,32 +48,20 @@ impl Machine {
     {
         let running = self.running;
         match running {
-            Running::Nothing => Answered {
-                machine: self,
-                refusal: 5,
-                links: 0,
-            },
+            Running::Nothing => self.answered(5, 0),
             Running::Runs {
                 thread: _,
                 timeslice: t,
                 count: _,
             } => {
                 if units == 0 {
-                    return Answered {
-                        machine: self,
-                        refusal: 11,
-                        links: 0,
-                    };
+                    return self.answered(11, 0);
                 }
                 let k = index(t);
                 let x = self.timeslices[k];
                 let left = x.left;
                 if left < units {
-                    return Answered {
-                        machine: self,
-                        refusal: 11,
-                        links: 0,
-                    };
+                    return self.answered(11, 0);
                 }
                 if left == units {
                     return self.depleted(t);
@@ -83,11 +71,7 @@ impl Machine {
                     ..x
                 };
                 self.timeslices[k] = y;
-                Answered {
-                    machine: self,
-                    refusal: 0,
-                    links: 0,
-                }
+                self.answered(0, 0)
             }
         }
     }

@@ -34,20 +34,12 @@ impl Machine {
         ensures { λ r. ⌜ Answers (dispatch (Create n role) (shown self)) self r ⌝ }
     {
         if 127 < n {
-            return Answered {
-                machine: self,
-                refusal: 2,
-                links: 0,
-            };
+            return self.answered(2, 0);
         }
         let k = index(n);
         let old = self.threads[k];
         if old.live {
-            return Answered {
-                machine: self,
-                refusal: 3,
-                links: 0,
-            };
+            return self.answered(3, 0);
         }
         let hold = starts_as(role);
         let new = Thread {
@@ -59,11 +51,7 @@ impl Machine {
         self.threads[k] = new;
         let live = self.live_threads;
         self.live_threads = live + 1;
-        Answered {
-            machine: self,
-            refusal: 0,
-            links: 0,
-        }
+        self.answered(0, 0)
     }
 
     pub(crate) fn dispatch_give(mut self, t: u8, n: u8, priority: u8, quantum: u16) -> Answered
@@ -71,51 +59,27 @@ impl Machine {
         ensures { λ r. ⌜ Answers (dispatch (Give t n priority quantum) (shown self)) self r ⌝ }
     {
         if 127 < t {
-            return Answered {
-                machine: self,
-                refusal: 2,
-                links: 0,
-            };
+            return self.answered(2, 0);
         }
         if 127 < n {
-            return Answered {
-                machine: self,
-                refusal: 2,
-                links: 0,
-            };
+            return self.answered(2, 0);
         }
         let order = self.order;
         let live = self.live_timeslices;
         if member(order, live, t) {
-            return Answered {
-                machine: self,
-                refusal: 3,
-                links: 0,
-            };
+            return self.answered(3, 0);
         }
         let k = index(n);
         let thread = self.threads[k];
         if !thread.live {
-            return Answered {
-                machine: self,
-                refusal: 4,
-                links: 0,
-            };
+            return self.answered(4, 0);
         }
         let timeslices = self.timeslices;
         if owns_one(timeslices, order, live, n) {
-            return Answered {
-                machine: self,
-                refusal: 13,
-                links: 0,
-            };
+            return self.answered(13, 0);
         }
         if quantum == 0 {
-            return Answered {
-                machine: self,
-                refusal: 12,
-                links: 0,
-            };
+            return self.answered(12, 0);
         }
         let j = index(t);
         let new = Timeslice {

@@ -13,7 +13,7 @@ use Rattle.dispatcher.proofs.Machine.dispatch_abort.Statement.{statemen
 use Rattle.dispatcher.proofs.Machine.dispatch_abort.Tie as tie
 
 returns : tie.Need-returns
-returns c = let a = c .before .args in refuse (Abort (a .n)) (a .t1) 1 (rw (lt-ltb _ _ (c .if1 .taken)) refl)
+returns c = refuse _ _ (c .answered .ensures) (rw (lt-ltb _ _ (c .before .if1 .taken)) refl)
 
 index-requires : tie.Need-index-requires
 index-requires c κs = tt
@@ -26,19 +26,19 @@ element-copy-out-thread c = search needs
 
 returns-2 : tie.Need-returns-2
 returns-2 c =
-    let a = c .before .before .before .before .before .args in
-    let dead = read (λ (t : Thread). t .live) (a .t1 .threads) _ _ _ (c .before .before .before .index .ensures) (not-true _ (c .if2 .taken)) in
-    refuse (Abort (a .n)) (a .t1) 3 (rw (le-ltb _ _ (c .before .before .before .before .if1 .left), dead) refl)
+    let m = c .before .before .before .before .before .before .args .t1 in
+    let dead = read (λ (t : Thread). t .live) (m .threads) _ _ _ (c .before .before .before .before .index .ensures) (not-true _ (c .before .if2 .taken)) in
+    refuse _ _ (c .answered2 .ensures) (rw (le-ltb _ _ (c .before .before .before .before .before .if1 .left), dead) refl)
 
 is-linked-requires : tie.Need-is-linked-requires
 is-linked-requires c κs = tt
 
 returns-3 : tie.Need-returns-3
 returns-3 c =
-    let a = c .before .before .before .before .before .before .before .args in
-    let live = read (λ (t : Thread). t .live) (a .t1 .threads) _ _ _ (c .before .before .before .before .before .index .ensures) (not-false _ (c .before .before .if2 .left)) in
-    let free = read (λ (t : Thread). linked (t .hold)) (a .t1 .threads) _ _ _ (c .before .before .before .before .before .index .ensures) (sym (c .before .is-linked .ensures) ∙ not-true _ (c .if3 .taken)) in
-    refuse (Abort (a .n)) (a .t1) 9 (rw (le-ltb _ _ (c .before .before .before .before .before .before .if1 .left), live, free) refl)
+    let m = c .before .before .before .before .before .before .before .before .args .t1 in
+    let live = read (λ (t : Thread). t .live) (m .threads) _ _ _ (c .before .before .before .before .before .before .index .ensures) (not-false _ (c .before .before .before .if2 .left)) in
+    let free = read (λ (t : Thread). linked (t .hold)) (m .threads) _ _ _ (c .before .before .before .before .before .before .index .ensures) (sym (c .before .before .is-linked .ensures) ∙ not-true _ (c .before .if3 .taken)) in
+    refuse _ _ (c .answered3 .ensures) (rw (le-ltb _ _ (c .before .before .before .before .before .before .before .if1 .left), live, free) refl)
 
 abort-walks-requires : tie.Need-abort-walks-requires
 abort-walks-requires c κs =
@@ -55,4 +55,4 @@ returns-4 c =
     accept (Abort (a .n)) m (s .pre) (rw (le-ltb _ _ (c .before .before .before .before .before .before .before .if1 .left), live, held) refl) (abort (a .n) (shown m)) refl _ (c .abort-walks .ensures)
 
 pub dispatch-abort-spec : {M : Type 1} → statement M
-dispatch-abort-spec = tie.close (tie.spec returns index-requires mul-thread element-copy-out-thread returns-2 is-linked-requires returns-3 abort-walks-requires returns-4)
+dispatch-abort-spec = tie.close (tie.spec (λ _ _. tt) returns index-requires mul-thread element-copy-out-thread (λ _ _. tt) returns-2 is-linked-requires (λ _ _. tt) returns-3 abort-walks-requires returns-4)

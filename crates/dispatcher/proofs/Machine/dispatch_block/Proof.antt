@@ -29,7 +29,7 @@ choose-requires c κs =
     record { exact = threads-exact (s .args .self) _ _ ok (c .with-hold .ensures) (live-hold _ _ _); few = omega arith }
 
 returns : tie.Need-returns
-returns c = let a = c .before .before .args in refuse Block (a .self) 4 (rw (c .enum-told .given .1) refl)
+returns c = refuse _ _ (c .answered .ensures) (rw (c .before .enum-told .given .1) refl)
 
 returns-2 : tie.Need-returns-2
 unfolding block
@@ -43,4 +43,4 @@ returns-2 c =
 pub dispatch-block-spec : {M : Type 1} → statement M
 dispatch-block-spec =
     tie.close
-    (tie.spec enum-told enum-known-running with-hold-requires choose-requires returns returns-2)
+    (tie.spec enum-told (λ _ _. tt) enum-known-running with-hold-requires choose-requires returns returns-2)

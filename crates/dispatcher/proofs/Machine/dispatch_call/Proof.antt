@@ -21,7 +21,7 @@ enum-known-running : tie.Need-enum-known-running
 enum-known-running c = search needs
 
 returns : tie.Need-returns
-returns c = let a = c .before .before .before .before .args in refuse (Call (a .server)) (a .t1) 1 (rw (c .before .before .running .given .1, lt-ltb _ _ (c .if1 .taken)) refl)
+returns c = refuse _ _ (c .answered2 .ensures) (rw (c .before .before .before .running .given .1, lt-ltb _ _ (c .before .if1 .taken)) refl)
 
 index-requires : tie.Need-index-requires
 index-requires c κs = search needs
@@ -34,26 +34,26 @@ element-copy-out-thread c = search needs
 
 returns-2 : tie.Need-returns-2
 returns-2 c =
-    let a = c .before .before .before .before .before .before .before .before .args in
-    let dead = read (λ (t : Thread). t .live) (a .t1 .threads) _ _ _ (c .before .before .before .index .ensures) (not-true _ (c .if2 .taken)) in
-    refuse (Call (a .server)) (a .t1) 3 (rw (c .before .before .before .before .before .before .running .given .1, le-ltb _ _ (c .before .before .before .before .if1 .left), dead) refl)
+    let m = c .before .before .before .before .before .before .before .before .before .args .t1 in
+    let dead = read (λ (t : Thread). t .live) (m .threads) _ _ _ (c .before .before .before .before .index .ensures) (not-true _ (c .before .if2 .taken)) in
+    refuse _ _ (c .answered3 .ensures) (rw (c .before .before .before .before .before .before .before .running .given .1, le-ltb _ _ (c .before .before .before .before .before .if1 .left), dead) refl)
 
 is-server-requires : tie.Need-is-server-requires
 is-server-requires c κs = search needs
 
 returns-3 : tie.Need-returns-3
 returns-3 c =
-    let a = c .before .before .before .before .before .before .before .before .before .before .args in
-    let live = read (λ (t : Thread). t .live) (a .t1 .threads) _ _ _ (c .before .before .before .before .before .index .ensures) (not-false _ (c .before .before .if2 .left)) in
-    let client = read (λ (t : Thread). isServer (t .role)) (a .t1 .threads) _ _ _ (c .before .before .before .before .before .index .ensures) (sym (c .before .is-server .ensures) ∙ not-true _ (c .if3 .taken)) in
-    refuse (Call (a .server)) (a .t1) 5 (rw (c .before .before .before .before .before .before .before .before .running .given .1, le-ltb _ _ (c .before .before .before .before .before .before .if1 .left), live, client) refl)
+    let m = c .before .before .before .before .before .before .before .before .before .before .before .args .t1 in
+    let live = read (λ (t : Thread). t .live) (m .threads) _ _ _ (c .before .before .before .before .before .before .index .ensures) (not-false _ (c .before .before .before .if2 .left)) in
+    let client = read (λ (t : Thread). isServer (t .role)) (m .threads) _ _ _ (c .before .before .before .before .before .before .index .ensures) (sym (c .before .before .is-server .ensures) ∙ not-true _ (c .before .if3 .taken)) in
+    refuse _ _ (c .answered4 .ensures) (rw (c .before .before .before .before .before .before .before .before .before .running .given .1, le-ltb _ _ (c .before .before .before .before .before .before .before .if1 .left), live, client) refl)
 
 returns-4 : tie.Need-returns-4
 returns-4 c =
-    let a = c .before .before .before .before .before .before .before .before .before .before .before .args in
-    let live = read (λ (t : Thread). t .live) (a .t1 .threads) _ _ _ (c .before .before .before .before .before .before .index .ensures) (not-false _ (c .before .before .before .if2 .left)) in
-    let server = read (λ (t : Thread). isServer (t .role)) (a .t1 .threads) _ _ _ (c .before .before .before .before .before .before .index .ensures) (sym (c .before .before .is-server .ensures) ∙ not-false _ (c .before .if3 .left)) in
-    refuse (Call (a .server)) (a .t1) 6 (rw (c .before .before .before .before .before .before .before .before .before .running .given .1, le-ltb _ _ (c .before .before .before .before .before .before .before .if1 .left), live, server, eq-eqb _ _ (c .if4 .taken)) refl)
+    let m = c .before .before .before .before .before .before .before .before .before .before .before .before .args .t1 in
+    let live = read (λ (t : Thread). t .live) (m .threads) _ _ _ (c .before .before .before .before .before .before .before .index .ensures) (not-false _ (c .before .before .before .before .if2 .left)) in
+    let server = read (λ (t : Thread). isServer (t .role)) (m .threads) _ _ _ (c .before .before .before .before .before .before .before .index .ensures) (sym (c .before .before .before .is-server .ensures) ∙ not-false _ (c .before .before .if3 .left)) in
+    refuse _ _ (c .answered5 .ensures) (rw (c .before .before .before .before .before .before .before .before .before .before .running .given .1, le-ltb _ _ (c .before .before .before .before .before .before .before .before .if1 .left), live, server, eq-eqb _ _ (c .before .if4 .taken)) refl)
 
 is-idle-requires : tie.Need-is-idle-requires
 is-idle-requires c κs = search needs
@@ -82,7 +82,7 @@ call-helps-requires : tie.Need-call-helps-requires
 call-helps-requires c κs = choosable _ (sound-stored _ (c .before .before .before .before .before .before .before .before .before .before .before .before .before .pre))
 
 returns-6 : tie.Need-returns-6
-returns-6 c = let a = c .before .before .args in refuse (Call (a .server)) (a .t1) 4 (rw (c .enum-told .given .1) refl)
+returns-6 c = refuse _ _ (c .answered .ensures) (rw (c .before .enum-told .given .1) refl)
 
 returns-7 : tie.Need-returns-7
 unfolding call
@@ -103,14 +103,19 @@ dispatch-call-spec =
     tie.close
     (tie.spec
     enum-told
+    (λ _ _. tt)
     enum-known-running
+    (λ _ _. tt)
     returns
     index-requires
     mul-thread
     element-copy-out-thread
+    (λ _ _. tt)
     returns-2
     is-server-requires
+    (λ _ _. tt)
     returns-3
+    (λ _ _. tt)
     returns-4
     is-idle-requires
     call-donates-requires

@@ -22,7 +22,7 @@ enum-known-running : tie.Need-enum-known-running
 enum-known-running c = search needs
 
 returns : tie.Need-returns
-returns c = let a = c .before .before .before .before .args in refuse (Charge (a .units)) (a .t1) 10 (rw (c .before .before .running .given .1, eq-eqb _ _ (c .if1 .taken)) refl)
+returns c = refuse _ _ (c .answered2 .ensures) (rw (c .before .before .before .running .given .1, eq-eqb _ _ (c .before .if1 .taken)) refl)
 
 index-requires : tie.Need-index-requires
 index-requires c κs = tt
@@ -35,9 +35,8 @@ element-copy-out-x c = omega (arith, c .index .ensures, current-fits _ _ _ _ (so
 
 returns-2 : tie.Need-returns-2
 returns-2 c =
-    let a = c .before .before .before .before .before .before .before .args in
-    let m = a .t1 in
-    refuse (Charge (a .units)) m 10 (rw (c .before .before .before .before .before .running .given .1, ne-eqb _ _ (c .before .before .before .if1 .left), left-at (m .timeslices) _ _ (c .before .before .index .ensures), lt-ltb _ _ (c .if2 .taken)) refl)
+    let m = c .before .before .before .before .before .before .before .before .args .t1 in
+    refuse _ _ (c .answered3 .ensures) (rw (c .before .before .before .before .before .before .running .given .1, ne-eqb _ _ (c .before .before .before .before .if1 .left), left-at (m .timeslices) _ _ (c .before .before .before .index .ensures), lt-ltb _ _ (c .before .if2 .taken)) refl)
 
 depleted-requires : tie.Need-depleted-requires
 depleted-requires c κs =
@@ -63,24 +62,24 @@ element-set-from-y : tie.Need-element-set-from-y
 element-set-from-y c = omega (arith, c .before .before .before .index .ensures, current-fits _ _ _ _ (sound-shown _ (c .before .before .before .before .before .before .before .before .pre)) (c .before .before .before .before .before .before .running .given .1))
 
 returns-4 : tie.Need-returns-4
-returns-4 c = let a = c .before .before .args in refuse (Charge (a .units)) (a .t1) 4 (rw (c .enum-told .given .1) refl)
+returns-4 c = refuse _ _ (c .answered .ensures) (rw (c .before .enum-told .given .1) refl)
 
 returns-5 : tie.Need-returns-5
 unfolding spends
 returns-5 c =
-    let s = c .before .before .before .before .before .before .before .before in
+    let s = c .before .before .before .before .before .before .before .before .before in
     let a = s .args in
     let m = a .t1 in
-    let run = c .before .before .before .before .before .before .running .given in
-    let at = c .before .before .before .index .ensures in
+    let run = c .before .before .before .before .before .before .before .running .given in
+    let at = c .before .before .before .before .index .ensures in
     let slices = charges (m .timeslices) _ (run .0 .1 .0) (a .units) at in
-    let places = left-places (m .timeslices) _ (run .0 .1 .0) (getD (m .timeslices) (c .before .before .before .index .result) freeTimeslice .left - a .units) at in
+    let places = left-places (m .timeslices) _ (run .0 .1 .0) (getD (m .timeslices) (c .before .before .before .before .index .result) freeTimeslice .left - a .units) at in
     let ok = sound-stored m (s .pre) in
     accept (Charge (a .units)) m (s .pre)
-    (rw (run .1, ne-eqb _ _ (c .before .before .before .before .if1 .left), left-at (m .timeslices) _ _ at, le-ltb _ _ (c .before .if2 .left)) refl)
-    (spends (run .0 .1 .0) (a .units) (shown m)) (charge-left m _ _ _ _ _ (run .1) at (c .if3 .left)) _
-    (stands _ _ (λ i. record { threads = m .threads; slices = slices i; places = places i; order = take (m .«live_timeslices») (m .order); running = m .running })
+    (rw (run .1, ne-eqb _ _ (c .before .before .before .before .before .if1 .left), left-at (m .timeslices) _ _ at, le-ltb _ _ (c .before .before .if2 .left)) refl)
+    (spends (run .0 .1 .0) (a .units) (shown m)) (charge-left m _ _ _ _ _ (run .1) at (c .before .if3 .left)) _
+    (stands (c .answered4 .ensures) (λ i. record { threads = m .threads; slices = slices i; places = places i; order = take (m .«live_timeslices») (m .order); running = m .running })
     (stored-with m ok _ refl refl (live-is m ok)))
 
 pub dispatch-charge-spec : {M : Type 1} → statement M
-dispatch-charge-spec = tie.close (tie.spec enum-told enum-known-running returns index-requires mul-x element-copy-out-x returns-2 depleted-requires returns-3 mul-y element-set-from-y returns-4 returns-5)
+dispatch-charge-spec = tie.close (tie.spec enum-told (λ _ _. tt) enum-known-running (λ _ _. tt) returns index-requires mul-x element-copy-out-x (λ _ _. tt) returns-2 depleted-requires returns-3 mul-y element-set-from-y (λ _ _. tt) returns-4 returns-5)

@@ -15,7 +15,7 @@ use Rattle.dispatcher.proofs.Machine.dispatch_create.Statement.{stateme
 use Rattle.dispatcher.proofs.Machine.dispatch_create.Tie as tie
 
 returns : tie.Need-returns
-returns c = let a = c .before .args in refuse (Create (a .n) (a .role)) (a .t1) 1 (rw (lt-ltb _ _ (c .if1 .taken)) refl)
+returns c = refuse _ _ (c .answered .ensures) (rw (lt-ltb _ _ (c .before .if1 .taken)) refl)
 
 index-requires : tie.Need-index-requires
 index-requires c κs = search needs
@@ -28,9 +28,9 @@ element-copy-out-old c = search needs
 
 returns-2 : tie.Need-returns-2
 returns-2 c =
-    let a = c .before .before .before .before .args in
-    let live = sym (ap (λ (k : ℕ). threadAt (a .t1 .threads) k .live) (c .before .before .index .ensures)) ∙ c .if2 .taken in
-    refuse (Create (a .n) (a .role)) (a .t1) 2 (rw (le-ltb _ _ (c .before .before .before .if1 .left), live) refl)
+    let m = c .before .before .before .before .before .args .t1 in
+    let live = sym (ap (λ (k : ℕ). threadAt (m .threads) k .live) (c .before .before .before .index .ensures)) ∙ c .before .if2 .taken in
+    refuse _ _ (c .answered2 .ensures) (rw (le-ltb _ _ (c .before .before .before .before .if1 .left), live) refl)
 
 starts-as-requires : tie.Need-starts-as-requires
 starts-as-requires c κs = search needs
@@ -50,25 +50,28 @@ add-self c =
 returns-3 : tie.Need-returns-3
 unfolding create
 returns-3 c =
-    let s = c .before .before .before .before .before in
+    let s = c .before .before .before .before .before .before in
     let a = s .args in
     let ok = sound-stored (a .t1) (s .pre) in
     let full : length (a .t1 .threads) ≡ 128 = simp length-map at (s .good .0 .1 .1 .0 .1 .0 .1) in
-    let free = sym (ap (λ (k : ℕ). threadAt (a .t1 .threads) k .live) (c .before .before .before .index .ensures)) ∙ c .before .if2 .left in
-    accept (Create (a .n) (a .role)) (a .t1) (s .pre) (rw (le-ltb _ _ (c .before .before .before .before .if1 .left), free) refl) (create (a .n) (a .role) (shown (a .t1))) refl _
-    (stands _ _ (creation-shown (a .t1) _ _ _ _ (c .before .before .before .index .ensures) (c .starts-as .ensures)) (creation-exact (a .t1) _ _ _ _ (c .before .before .before .index .ensures) (c .starts-as .ensures) ok (omega (arith, full, c .before .before .before .before .if1 .left)) free))
+    let free = sym (ap (λ (k : ℕ). threadAt (a .t1 .threads) k .live) (c .before .before .before .before .index .ensures)) ∙ c .before .before .if2 .left in
+    accept (Create (a .n) (a .role)) (a .t1) (s .pre) (rw (le-ltb _ _ (c .before .before .before .before .before .if1 .left), free) refl) (create (a .n) (a .role) (shown (a .t1))) refl _
+    (stands (c .answered3 .ensures) (creation-shown (a .t1) _ _ _ _ (c .before .before .before .before .index .ensures) (c .before .starts-as .ensures)) (creation-exact (a .t1) _ _ _ _ (c .before .before .before .before .index .ensures) (c .before .starts-as .ensures) ok (omega (arith, full, c .before .before .before .before .before .if1 .left)) free))
 
 pub dispatch-create-spec : {M : Type 1} → statement M
 dispatch-create-spec =
     tie.close
     (tie.spec
+    (λ _ _. tt)
     returns
     index-requires
     mul-old
     element-copy-out-old
+    (λ _ _. tt)
     returns-2
     starts-as-requires
     mul-new
     element-set-from-new
     add-self
+    (λ _ _. tt)
     returns-3)

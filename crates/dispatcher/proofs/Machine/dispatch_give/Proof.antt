@@ -29,18 +29,16 @@ roomy c =
     omega (arith, few, length-take-le (m .«live_timeslices») (m .order) (omega arith))
 
 returns : tie.Need-returns
-returns c = let a = c .before .args in refuse (Give (a .t) (a .n) (a .priority) (a .quantum)) (a .t1) 1 (rw (lt-ltb _ _ (c .if1 .taken)) refl)
+returns c = refuse _ _ (c .answered .ensures) (rw (lt-ltb _ _ (c .before .if1 .taken)) refl)
 
 returns-2 : tie.Need-returns-2
-returns-2 c = let a = c .before .before .args in refuse (Give (a .t) (a .n) (a .priority) (a .quantum)) (a .t1) 1 (rw (le-ltb _ _ (c .before .if1 .left), lt-ltb _ _ (c .if2 .taken)) refl)
+returns-2 c = refuse _ _ (c .answered2 .ensures) (rw (le-ltb _ _ (c .before .before .if1 .left), lt-ltb _ _ (c .before .if2 .taken)) refl)
 
 member-requires : tie.Need-member-requires
 member-requires c κs = turns-fit _ (sound-stored _ (c .before .before .before .pre))
 
 returns-3 : tie.Need-returns-3
-returns-3 c =
-    let a = c .before .before .before .before .before .args in
-    refuse (Give (a .t) (a .n) (a .priority) (a .quantum)) (a .t1) 2 (rw (le-ltb _ _ (c .before .before .before .before .if1 .left), le-ltb _ _ (c .before .before .before .if2 .left), sym (c .before .member .ensures) ∙ c .if3 .taken) refl)
+returns-3 c = refuse _ _ (c .answered3 .ensures) (rw (le-ltb _ _ (c .before .before .before .before .before .if1 .left), le-ltb _ _ (c .before .before .before .before .if2 .left), sym (c .before .before .member .ensures) ∙ c .before .if3 .taken) refl)
 
 index-requires : tie.Need-index-requires
 index-requires c κs = tt
@@ -53,24 +51,24 @@ element-copy-out-thread c = search needs
 
 returns-4 : tie.Need-returns-4
 returns-4 c =
-    let a = c .before .before .before .before .before .before .before .before .before .args in
-    let dead = read (λ (t : Thread). t .live) (a .t1 .threads) _ _ _ (c .before .before .before .index .ensures) (not-true _ (c .if4 .taken)) in
-    refuse (Give (a .t) (a .n) (a .priority) (a .quantum)) (a .t1) 3 (rw (le-ltb _ _ (c .before .before .before .before .before .before .before .before .if1 .left), le-ltb _ _ (c .before .before .before .before .before .before .before .if2 .left), sym (c .before .before .before .before .before .member .ensures) ∙ c .before .before .before .before .if3 .left, dead) refl)
+    let m = c .before .before .before .before .before .before .before .before .before .before .args .t1 in
+    let dead = read (λ (t : Thread). t .live) (m .threads) _ _ _ (c .before .before .before .before .index .ensures) (not-true _ (c .before .if4 .taken)) in
+    refuse _ _ (c .answered4 .ensures) (rw (le-ltb _ _ (c .before .before .before .before .before .before .before .before .before .if1 .left), le-ltb _ _ (c .before .before .before .before .before .before .before .before .if2 .left), sym (c .before .before .before .before .before .before .member .ensures) ∙ c .before .before .before .before .before .if3 .left, dead) refl)
 
 owns-one-requires : tie.Need-owns-one-requires
 owns-one-requires c κs = turns-fit _ (sound-stored _ (c .before .before .before .before .before .before .before .before .before .before .pre))
 
 returns-5 : tie.Need-returns-5
 returns-5 c =
-    let a = c .before .before .before .before .before .before .before .before .before .before .before .before .args in
-    let live = read (λ (t : Thread). t .live) (a .t1 .threads) _ _ _ (c .before .before .before .before .before .before .index .ensures) (not-false _ (c .before .before .before .if4 .left)) in
-    refuse (Give (a .t) (a .n) (a .priority) (a .quantum)) (a .t1) 12 (rw (le-ltb _ _ (c .before .before .before .before .before .before .before .before .before .before .before .if1 .left), le-ltb _ _ (c .before .before .before .before .before .before .before .before .before .before .if2 .left), sym (c .before .before .before .before .before .before .before .before .member .ensures) ∙ c .before .before .before .before .before .before .before .if3 .left, live, sym (c .before .owns-one .ensures) ∙ c .if5 .taken) refl)
+    let m = c .before .before .before .before .before .before .before .before .before .before .before .before .before .args .t1 in
+    let live = read (λ (t : Thread). t .live) (m .threads) _ _ _ (c .before .before .before .before .before .before .before .index .ensures) (not-false _ (c .before .before .before .before .if4 .left)) in
+    refuse _ _ (c .answered5 .ensures) (rw (le-ltb _ _ (c .before .before .before .before .before .before .before .before .before .before .before .before .if1 .left), le-ltb _ _ (c .before .before .before .before .before .before .before .before .before .before .before .if2 .left), sym (c .before .before .before .before .before .before .before .before .before .member .ensures) ∙ c .before .before .before .before .before .before .before .before .if3 .left, live, sym (c .before .before .owns-one .ensures) ∙ c .before .if5 .taken) refl)
 
 returns-6 : tie.Need-returns-6
 returns-6 c =
-    let a = c .before .before .before .before .before .before .before .before .before .before .before .before .before .args in
-    let live = read (λ (t : Thread). t .live) (a .t1 .threads) _ _ _ (c .before .before .before .before .before .before .before .index .ensures) (not-false _ (c .before .before .before .before .if4 .left)) in
-    refuse (Give (a .t) (a .n) (a .priority) (a .quantum)) (a .t1) 11 (rw (le-ltb _ _ (c .before .before .before .before .before .before .before .before .before .before .before .before .if1 .left), le-ltb _ _ (c .before .before .before .before .before .before .before .before .before .before .before .if2 .left), sym (c .before .before .before .before .before .before .before .before .before .member .ensures) ∙ c .before .before .before .before .before .before .before .before .if3 .left, live, sym (c .before .before .owns-one .ensures) ∙ c .before .if5 .left, eq-eqb _ _ (c .if6 .taken)) refl)
+    let m = c .before .before .before .before .before .before .before .before .before .before .before .before .before .before .args .t1 in
+    let live = read (λ (t : Thread). t .live) (m .threads) _ _ _ (c .before .before .before .before .before .before .before .before .index .ensures) (not-false _ (c .before .before .before .before .before .if4 .left)) in
+    refuse _ _ (c .answered6 .ensures) (rw (le-ltb _ _ (c .before .before .before .before .before .before .before .before .before .before .before .before .before .if1 .left), le-ltb _ _ (c .before .before .before .before .before .before .before .before .before .before .before .before .if2 .left), sym (c .before .before .before .before .before .before .before .before .before .before .member .ensures) ∙ c .before .before .before .before .before .before .before .before .before .if3 .left, live, sym (c .before .before .before .owns-one .ensures) ∙ c .before .before .if5 .left, eq-eqb _ _ (c .before .if6 .taken)) refl)
 
 index-requires-2 : tie.Need-index-requires-2
 index-requires-2 c κs = tt
@@ -109,4 +107,4 @@ returns-7 c =
     (given-to (a .t) (gift m (c .before .before .index2 .result) (c .before .index3 .result) (a .t) (a .n) (a .priority) (a .quantum) (c .before .before .index2 .ensures) (c .before .index3 .ensures) (roomy (c .before .before .before .before .before .before .before .before .before .before .before))) _ _ (gift-shown m (c .before .before .index2 .result) (c .before .index3 .result) (a .t) (a .n) (a .priority) (a .quantum) (c .before .before .index2 .ensures) (c .before .index3 .ensures) (roomy (c .before .before .before .before .before .before .before .before .before .before .before)) full) (c .overtaken .ensures))
 
 pub dispatch-give-spec : {M : Type 1} → statement M
-dispatch-give-spec = tie.close (tie.spec returns returns-2 member-requires returns-3 index-requires mul-thread element-copy-out-thread returns-4 owns-one-requires returns-5 returns-6 index-requires-2 mul-new element-set-from-new index-requires-3 element-write-self add-self overtaken-requires returns-7)
+dispatch-give-spec = tie.close (tie.spec (λ _ _. tt) returns (λ _ _. tt) returns-2 member-requires (λ _ _. tt) returns-3 index-requires mul-thread element-copy-out-thread (λ _ _. tt) returns-4 owns-one-requires (λ _ _. tt) returns-5 (λ _ _. tt) returns-6 index-requires-2 mul-new element-set-from-new index-requires-3 element-write-self add-self overtaken-requires returns-7)

@@ -28,11 +28,11 @@ index-requires c κs = search needs
 
 returns : tie.Need-returns
 returns c =
-    let s = c .before .before .before .before .before in
+    let s = c .before .before .before .before .before .before in
     let m = s .args .t1 in
     let full : length (m .threads) ≡ 128 = simp length-map at (s .good .0 .1 .1 .0 .1 .0 .1) in
-    let client = ap (λ (t : Thread). isServer (t .role)) (past (m .threads) _ _ freeThread full (c .before .index .ensures) (c .if1 .taken)) in
-    refuse Reply m 7 (rw (c .before .before .before .running .given .1, client) refl)
+    let client = ap (λ (t : Thread). isServer (t .role)) (past (m .threads) _ _ freeThread full (c .before .before .index .ensures) (c .before .if1 .taken)) in
+    refuse _ _ (c .answered2 .ensures) (rw (c .before .before .before .before .running .given .1, client) refl)
 
 mul-thread : tie.Need-mul-thread
 mul-thread c = search needs
@@ -45,9 +45,9 @@ is-server-requires c κs = search needs
 
 returns-2 : tie.Need-returns-2
 returns-2 c =
-    let m = c .before .before .before .before .before .before .before .before .args .t1 in
-    let client = read (λ (t : Thread). isServer (t .role)) (m .threads) _ _ _ (c .before .before .before .before .index .ensures) (sym (c .before .is-server .ensures) ∙ not-true _ (c .if2 .taken)) in
-    refuse Reply m 7 (rw (c .before .before .before .before .before .before .running .given .1, client) refl)
+    let m = c .before .before .before .before .before .before .before .before .before .args .t1 in
+    let client = read (λ (t : Thread). isServer (t .role)) (m .threads) _ _ _ (c .before .before .before .before .before .index .ensures) (sym (c .before .before .is-server .ensures) ∙ not-true _ (c .before .if2 .taken)) in
+    refuse _ _ (c .answered3 .ensures) (rw (c .before .before .before .before .before .before .before .running .given .1, client) refl)
 
 replied-requires : tie.Need-replied-requires
 replied-requires c κs = let m = c .before .before .before .before .before .before .before .before .before .args .t1 in ap (λ (k : ℕ). serviceAt (m .threads) k) (c .before .before .before .before .before .index .ensures)
@@ -56,7 +56,7 @@ reply-to-requires : tie.Need-reply-to-requires
 reply-to-requires c κs = let s = c .before .before .before .before .before .before .before .before .before .before in choosable _ (threads-exact (s .args .t1) _ _ (sound-stored _ (s .pre)) (c .replied .ensures) (live-replied _ _))
 
 returns-3 : tie.Need-returns-3
-returns-3 c = let a = c .before .before .args in refuse Reply (a .t1) 4 (rw (c .enum-told .given .1) refl)
+returns-3 c = refuse _ _ (c .answered .ensures) (rw (c .before .enum-told .given .1) refl)
 
 returns-4 : tie.Need-returns-4
 unfolding reply
@@ -76,12 +76,15 @@ dispatch-reply-spec =
     tie.close
     (tie.spec
     enum-told
+    (λ _ _. tt)
     enum-known-running
     index-requires
+    (λ _ _. tt)
     returns
     mul-thread
     element-copy-out-thread
     is-server-requires
+    (λ _ _. tt)
     returns-2
     replied-requires
     reply-to-requires

@@ -16,7 +16,7 @@ use Rattle.dispatcher.proofs.Machine.dispatch_wake.Statement.{statement
 use Rattle.dispatcher.proofs.Machine.dispatch_wake.Tie as tie
 
 returns : tie.Need-returns
-returns c = let a = c .before .args in refuse (Wake (a .n)) (a .t1) 1 (rw (lt-ltb _ _ (c .if1 .taken)) refl)
+returns c = refuse _ _ (c .answered .ensures) (rw (lt-ltb _ _ (c .before .if1 .taken)) refl)
 
 index-requires : tie.Need-index-requires
 index-requires c κs = search needs
@@ -29,19 +29,19 @@ element-copy-out-thread c = search needs
 
 returns-2 : tie.Need-returns-2
 returns-2 c =
-    let a = c .before .before .before .before .before .args in
-    let dead = read (λ (t : Thread). t .live) (a .t1 .threads) _ _ _ (c .before .before .before .index .ensures) (not-true _ (c .if2 .taken)) in
-    refuse (Wake (a .n)) (a .t1) 3 (rw (le-ltb _ _ (c .before .before .before .before .if1 .left), dead) refl)
+    let m = c .before .before .before .before .before .before .args .t1 in
+    let dead = read (λ (t : Thread). t .live) (m .threads) _ _ _ (c .before .before .before .before .index .ensures) (not-true _ (c .before .if2 .taken)) in
+    refuse _ _ (c .answered2 .ensures) (rw (le-ltb _ _ (c .before .before .before .before .before .if1 .left), dead) refl)
 
 is-blocked-requires : tie.Need-is-blocked-requires
 is-blocked-requires c κs = search needs
 
 returns-3 : tie.Need-returns-3
 returns-3 c =
-    let a = c .before .before .before .before .before .before .before .args in
-    let live = read (λ (t : Thread). t .live) (a .t1 .threads) _ _ _ (c .before .before .before .before .before .index .ensures) (not-false _ (c .before .before .if2 .left)) in
-    let stands = read (λ (t : Thread). isBlocked (t .hold)) (a .t1 .threads) _ _ _ (c .before .before .before .before .before .index .ensures) (sym (c .before .is-blocked .ensures) ∙ not-true _ (c .if3 .taken)) in
-    refuse (Wake (a .n)) (a .t1) 8 (rw (le-ltb _ _ (c .before .before .before .before .before .before .if1 .left), live, stands) refl)
+    let m = c .before .before .before .before .before .before .before .before .args .t1 in
+    let live = read (λ (t : Thread). t .live) (m .threads) _ _ _ (c .before .before .before .before .before .before .index .ensures) (not-false _ (c .before .before .before .if2 .left)) in
+    let stands = read (λ (t : Thread). isBlocked (t .hold)) (m .threads) _ _ _ (c .before .before .before .before .before .before .index .ensures) (sym (c .before .before .is-blocked .ensures) ∙ not-true _ (c .before .if3 .taken)) in
+    refuse _ _ (c .answered3 .ensures) (rw (le-ltb _ _ (c .before .before .before .before .before .before .before .if1 .left), live, stands) refl)
 
 with-hold-requires : tie.Need-with-hold-requires
 with-hold-requires c κs = search needs
@@ -66,12 +66,15 @@ pub dispatch-wake-spec : {M : Type 1} → statement M
 dispatch-wake-spec =
     tie.close
     (tie.spec
+    (λ _ _. tt)
     returns
     index-requires
     mul-thread
     element-copy-out-thread
+    (λ _ _. tt)
     returns-2
     is-blocked-requires
+    (λ _ _. tt)
     returns-3
     with-hold-requires
     waiters-released-requires

@@ -26,7 +26,7 @@ returns-2 : tie.Need-returns-2
 returns-2 c = chose _ _ _ (over-nothing (c .before .before .before .args .self) _ (c .before .enum-told .given .1)) (c .choose .ensures)
 
 returns-3 : tie.Need-returns-3
-returns-3 c = stayed _ _ (over-running (c .before .before .before .before .before .before .before .args .self) _ _ _ _ _ _ (c .before .before .before .before .before .running .given .1) (c .before .stands-above .ensures) (c .if1 .left)) (c .before .before .before .before .before .before .before .pre .exact)
+returns-3 c = stayed _ _ _ (c .answered .ensures) (over-running (c .before .before .before .before .before .before .before .before .args .self) _ _ _ _ _ _ (c .before .before .before .before .before .before .running .given .1) (c .before .before .stands-above .ensures) (c .before .if1 .left)) (c .before .before .before .before .before .before .before .before .pre .exact)
 
 pub overtaken-spec : {M : Type 1} → statement M
 overtaken-spec =
@@ -38,5 +38,6 @@ overtaken-spec =
     stands-above-requires
     choose-requires-2
     returns
+    (λ _ _. tt)
     returns-2
     returns-3)

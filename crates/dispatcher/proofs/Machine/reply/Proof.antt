@@ -9,7 +9,7 @@ is-sound-requires : tie.Need-is-sound-requires
 is-sound-requires c κs = search needs
 
 returns : tie.Need-returns
-returns c = unsound-refused _ _ (sym (c .before .is-sound .ensures) ∙ not-true _ (c .if1 .taken))
+returns c = unsound-refused _ _ _ (c .answered .ensures) (sym (c .before .before .is-sound .ensures) ∙ not-true _ (c .before .if1 .taken))
 
 dispatch-reply-requires : tie.Need-dispatch-reply-requires
 dispatch-reply-requires c κs = sym (c .before .is-sound .ensures) ∙ not-false _ (c .if1 .left)
@@ -19,4 +19,4 @@ returns-2 c =
     sound-dispatched _ _ _ (sym (c .before .before .is-sound .ensures) ∙ not-false _ (c .before .if1 .left)) (c .dispatch-reply .ensures)
 
 pub reply-spec : {M : Type 1} → statement M
-reply-spec = tie.close (tie.spec is-sound-requires returns dispatch-reply-requires returns-2)
+reply-spec = tie.close (tie.spec is-sound-requires (λ _ _. tt) returns dispatch-reply-requires returns-2)

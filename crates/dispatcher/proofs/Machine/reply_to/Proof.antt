@@ -20,9 +20,9 @@ sub-t10 c = search needs
 
 returns : tie.Need-returns
 returns c =
-    let s = c .before .before .before .before .before .before .before in
+    let s = c .before .before .before .before .before .before .before .before in
     let m = s .args .self in
-    rw (c .before .before .before .before .before .service .given .1, lt-ltb _ _ (c .before .before .before .if1 .taken)) (stands _ _ refl (running-exact m _ _ _ (s .pre .exact) refl refl))
+    rw (c .before .before .before .before .before .before .service .given .1, lt-ltb _ _ (c .before .before .before .before .if1 .taken)) (stands (c .answered .ensures) refl (running-exact m _ _ _ (s .pre .exact) refl refl))
 
 choose-requires-2 : tie.Need-choose-requires-2
 choose-requires-2 c κs = c .before .before .before .before .pre
@@ -50,6 +50,7 @@ reply-to-spec =
     choose-requires
     enum-known-service
     sub-t10
+    (λ _ _. tt)
     returns
     choose-requires-2
     enum-told-2

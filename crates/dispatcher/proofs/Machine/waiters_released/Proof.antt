@@ -20,7 +20,7 @@ overtaken-requires : tie.Need-overtaken-requires
 overtaken-requires c κs = freed-exact _ _ _ _ _ (c .before .before .before .before .topmost .ensures) (c .before .before .first .given .1) (c .released .ensures) (c .before .before .before .before .before .before .before .pre)
 
 returns : tie.Need-returns
-returns c = none-released _ _ _ (c .before .before .topmost .ensures) (c .enum-told .given .1) (c .before .before .before .before .before .pre .exact)
+returns c = none-released _ _ _ _ (c .answered .ensures) (c .before .before .before .topmost .ensures) (c .before .enum-told .given .1) (c .before .before .before .before .before .before .pre .exact)
 
 returns-2 : tie.Need-returns-2
 returns-2 c = one-released _ (c .before .before .before .before .before .before .before .before .args .self) _ _ _ (c .before .before .before .before .before .topmost .ensures) (c .before .before .before .first .given .1) (c .before .released .ensures) _ (c .overtaken .ensures)
@@ -31,6 +31,7 @@ waiters-released-spec =
     (tie.spec
     topmost-requires
     enum-told
+    (λ _ _. tt)
     enum-known-first
     released-requires
     overtaken-requires
