@@ -1,6 +1,5 @@
 pub mod Tables
 pub mod Walks
-pub mod Searches
 pub mod Releases
 pub mod Rankings
 pub mod Recodings

@@ -22,7 +22,6 @@ use Rattle.dispatcher.specs.Shown.{sliceOf, placeOf, freeTimeslice}
 use Rattle.dispatcher.specs.Sets.{setOf, found, kindOf, numberOf}
 use Rattle.dispatcher.specs.Ranking.{codeOf, rankOf, turnOf, weight, higher, highest, topOf, Ranked}
 use Rattle.dispatcher.proofs.Tables.{slice-at, place-at, turn, turns-out}
-use Rattle.dispatcher.proofs.Searches.{takes, same-place}
 
 -- a loop that stores one entry after another: those before i have their new value, the others are as they were
 pub record Storing (value : ℕ → ℕ) (before now : List ℕ) (i : ℕ) : Type 0 where
@@ -109,6 +108,29 @@ some-top order (suc b) i h e above at = rw (sym e, at) refl
 
 pub no-top : (order : List ℕ) (best h : ℕ) → best ≡ h → best ≤ 0 → found Nothing ≡ topOf order h
 no-top order best h e none-above = let z : h ≡ 0 = omega arith in rw z refl
+
+-- the timeslices in a set
+abbrev pub takes : Place → List Timeslice → ℕ → Bool
+takes set ts t = setOf set (placeAt (map placeOf ts) t)
+
+-- two places are the same where kind and number are
+pub same-place : (place set : Place) → setOf set place ≡ cond (eqb (kindOf place) (kindOf set)) (eqb (numberOf place) (numberOf set)) false
+same-place Queue Queue = refl
+same-place Queue (Behind u) = refl
+same-place Queue (On m) = refl
+same-place Queue Stalled = refl
+same-place (Behind t) Queue = refl
+same-place (Behind t) (Behind u) = refl
+same-place (Behind t) (On m) = refl
+same-place (Behind t) Stalled = refl
+same-place (On n) Queue = refl
+same-place (On n) (Behind u) = refl
+same-place (On n) (On m) = refl
+same-place (On n) Stalled = refl
+same-place Stalled Queue = refl
+same-place Stalled (Behind u) = refl
+same-place Stalled (On m) = refl
+same-place Stalled Stalled = refl
 
 -- a number below 4 and a multiple of 4 are got back from their sum
 module _ (k l a b : ℕ) (low : k < 4) (low′ : l < 4) where

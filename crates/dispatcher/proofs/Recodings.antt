@@ -22,7 +22,7 @@ use Rattle.dispatcher.specs.Releasing.{placesAfter, Replaced}
 use Rattle.dispatcher.specs.Ranking.{codeOf, rankOf, highest, topOf, parkedCode, releasedCode, Changed, ReleasedCodes, Ranked}
 use Rattle.dispatcher.proofs.Tables.{map-set}
 use Rattle.dispatcher.proofs.Releases.{nobody, somebody}
-use Rattle.dispatcher.proofs.Searches.{takes}
+use Rattle.dispatcher.proofs.Rankings.{takes}
 use Rattle.dispatcher.proofs.Rankings.{in-set, top-is}
 
 -- the place of timeslice u after timeslice t is put at p

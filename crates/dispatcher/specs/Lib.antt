@@ -1,6 +1,5 @@
 pub mod Shown
 pub mod Sets
-pub mod Search
 pub mod Releasing
 pub mod Ranking
 pub mod Choosing

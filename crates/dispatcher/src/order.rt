@@ -1,15 +1,14 @@
 // Document 01: "Of two timeslices the higher priority stands above; among equals, the earlier in turn order."
 ghost use mathlib.Core.Path.{_≡_};
 ghost use mathlib.Core.List.{map};
-ghost use Prim.Native.Nat.{suc, _≤_};
+ghost use Prim.Native.Nat.{_≤_};
 ghost use lib.ListN.{take};
-ghost use Rattle.rules.specs.State.{placeAt, ownerAt};
+ghost use Rattle.rules.specs.State.{ownerAt};
 ghost use Rattle.rules.specs.Tests.{member as memberOf, some-of};
 ghost use lib.Dec.{eqb};
-ghost use Rattle.rules.specs.Order.{topmost as topmostOf, earlier as earlierOf, standsAbove};
-ghost use Rattle.dispatcher.specs.Shown.{sliceOf, placeOf};
-ghost use Rattle.dispatcher.specs.Sets.{setOf, found, kindOf, numberOf};
-ghost use Rattle.dispatcher.specs.Search.{better as betterOf, weighed as weighedOf};
+ghost use Rattle.rules.specs.Order.{earlier as earlierOf, standsAbove};
+ghost use Rattle.dispatcher.specs.Shown.{sliceOf};
+ghost use Rattle.dispatcher.specs.Sets.{setOf, kindOf, numberOf};
 use crate::numbers::index;
 use rules::Place;
 use rules::Timeslice;
@@ -18,12 +17,6 @@ use rules::Timeslice;
 pub enum Found {
     Nothing,
     At(u8),
-}
-
-// The best timeslice so far: its priority and one more, 0 where there is none.
-pub struct Best {
-    pub score: u16,
-    pub timeslice: u8,
 }
 
 pub fn kind(place: Place) -> u8
@@ -57,64 +50,6 @@ pub fn in_set(place: Place, set: Place) -> bool
     } else {
         false
     }
-}
-
-pub fn score_of(priority: u8) -> u16
-    ensures { λ r. ⌜ r ≡ suc priority ⌝ }
-{
-    (priority as u16) + 1
-}
-
-// Of equal priorities the earlier stands above.
-pub fn better(best: Best, t: u8, priority: u8) -> Best
-    ensures { λ r. ⌜ r ≡ betterOf best t priority ⌝ }
-{
-    let score = score_of(priority);
-    if score < best.score {
-        return best;
-    }
-    Best {
-        score,
-        timeslice: t,
-    }
-}
-
-pub fn weighed(best: Best, t: u8, x: Timeslice, set: Place) -> Best
-    ensures { λ r. ⌜ r ≡ weighedOf best t x set ⌝ }
-{
-    let place = x.place;
-    let priority = x.priority;
-    if in_set(place, set) {
-        return better(best, t, priority);
-    }
-    best
-}
-
-// The topmost of the timeslices in a set. The turn order is gone through from its back.
-pub fn topmost(timeslices: [Timeslice; 128], order: [u8; 128], live: u8, set: Place) -> Found
-    requires { ⌜ live ≤ 128 ⌝ }
-    ensures { λ r. ⌜ found r ≡ topmostOf (map sliceOf timeslices) (λ t. setOf set (placeAt (map placeOf timeslices) t)) (take live order) ⌝ }
-{
-    let mut best = Best {
-        score: 0,
-        timeslice: 0,
-    };
-    let mut i = index(live);
-    while 0 < i {
-        i -= 1;
-        let t = order[i];
-        let k = index(t);
-        if k < 128 {
-            let x = timeslices[k];
-            best = weighed(best, t, x, set);
-        } else {
-            best = weighed(best, t, Timeslice::FREE, set);
-        }
-    }
-    if best.score == 0 {
-        return Found::Nothing;
-    }
-    Found::At(best.timeslice)
 }
 
 // One comes before the other in turn order.

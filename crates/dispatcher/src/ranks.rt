@@ -1,9 +1,13 @@
-// The live timeslices in turn order as numbers, for the length of one choice. A choice searches many times, and a search through an array of
-// numbers is compiled to vector instructions, where a search through the timeslices is not.
+// The live timeslices in turn order as numbers, for one search or for all the searches of one choice: a search through an array of numbers is
+// compiled to vector instructions, where a search through the timeslices is not.
 ghost use mathlib.Core.Path.{_≡_};
+ghost use mathlib.Core.List.{map};
 ghost use Prim.Native.Nat.{_≤_, _<_};
-ghost use lib.ListN.{length};
-ghost use Rattle.dispatcher.specs.Sets.{found};
+ghost use lib.ListN.{length, take};
+ghost use Rattle.rules.specs.State.{placeAt};
+ghost use Rattle.rules.specs.Order.{topmost as topmostOf};
+ghost use Rattle.dispatcher.specs.Shown.{sliceOf, placeOf};
+ghost use Rattle.dispatcher.specs.Sets.{setOf, found};
 ghost use Rattle.dispatcher.specs.Ranking.{codeOf, rankOf, turnOf, weight as weightOf, higher as higherOf, highest as highestOf};
 ghost use Rattle.dispatcher.specs.Ranking.{topOf, parkedCode, releasedCode, Changed, ReleasedCodes, Ranked};
 use crate::numbers::index;
@@ -125,6 +129,18 @@ pub fn top_of(
         return Found::At(t);
     }
     Found::Nothing
+}
+
+// The topmost of the timeslices in a set.
+pub fn topmost(timeslices: [Timeslice; 128], order: [u8; 128], live: u8, set: Place) -> Found
+    requires { ⌜ live ≤ 128 ⌝ }
+    ensures { λ r. ⌜ found r ≡ topmostOf (map sliceOf timeslices) (λ t. setOf set (placeAt (map placeOf timeslices) t)) (take live order) ⌝ }
+{
+    let mut codes = [0u16; Timeslice::LIMIT];
+    let mut ranks = [0u16; Timeslice::LIMIT];
+    fill(&mut codes, &mut ranks, timeslices, order, live);
+    let c = code(set);
+    top_of(&codes, &ranks, &order, live, c)
 }
 
 pub fn parked_code(code: u16, t: u8, parked: u8, to: u16) -> u16

@@ -10,7 +10,7 @@ ghost use Rattle.dispatcher.specs.Releasing.{placesAfter, Replaced};
 use crate::numbers::index;
 use crate::order::Found;
 use crate::order::in_set;
-use crate::order::topmost;
+use crate::ranks::topmost;
 use rules::Place;
 use rules::Timeslice;
 

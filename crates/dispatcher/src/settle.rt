@@ -7,7 +7,7 @@ use crate::Answered;
 use crate::Machine;
 use crate::order::Found;
 use crate::order::stands_above;
-use crate::order::topmost;
+use crate::ranks::topmost;
 use crate::release::released;
 use rules::Place;
 use rules::Running;

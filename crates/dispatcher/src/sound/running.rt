@@ -8,7 +8,7 @@ ghost use Rattle.rules.specs.Sound.{settled};
 ghost use Rattle.dispatcher.specs.Parts.{Counts, partsOf, runsOn};
 ghost use Rattle.dispatcher.specs.Shown.{sliceOf};
 use crate::order::Found;
-use crate::order::topmost;
+use crate::ranks::topmost;
 use crate::sound::lookup::timeslice_at;
 use crate::sound::walk_ends::runs_as;
 use crate::sound::walk_ends::verdict_of;

@@ -1,6 +1,6 @@
 use borrow.Author.Tests.{eq-eqb, ne-eqb}
 use borrow.Author.Needs.{needs}
-use Rattle.dispatcher.proofs.Searches.{same-place}
+use Rattle.dispatcher.proofs.Rankings.{same-place}
 use Rattle.dispatcher.proofs.order.in_set.Statement.{statement}
 use Rattle.dispatcher.proofs.order.in_set.Tie as tie
 
