@@ -98,11 +98,7 @@ impl Machine {
                         running: Running::Nothing,
                         ..self
                     };
-                    return Answered {
-                        machine,
-                        refusal: 0,
-                        links: followed,
-                    };
+                    return machine.answered(0, followed);
                 }
                 Found::At(t) => {
                     let k = index(t);
@@ -131,11 +127,7 @@ impl Machine {
                                 count: chain.count,
                             };
                             let machine = Machine { running, ..self };
-                            return Answered {
-                                machine,
-                                refusal: 0,
-                                links: followed,
-                            };
+                            return machine.answered(0, followed);
                         }
                         Verdict::Retries => {
                             let next = donated(threads, helper, end);
@@ -176,10 +168,6 @@ impl Machine {
                 }
             }
         }
-        Answered {
-            machine: self,
-            refusal: 0,
-            links: followed,
-        }
+        self.answered(0, followed)
     }
 }

@@ -76,7 +76,7 @@ enum-told : tie.Need-enum-told Inv-loop μ-loop
 enum-told c = search needs
 
 returns : tie.Need-returns Inv-loop μ-loop
-returns c = runs-none _ _ _ _ _ _ _ _ _ _ (c .before .before .before .before .before .before .before .before .before .before .loop .inv) (c .before .before .before .before .before .top-of .result) (c .before .before .before .before .before .before .before .before .before .loop-test .taken) (tops-queue _ _ _ _ _ _ _ _ _ _ (c .before .before .before .before .before .before .before .before .before .before .loop .inv) (c .before .before .before .before .before .top-of .result) (c .before .before .before .before .before .top-of .ensures)) (c .before .before .before .enum-told .given .1)
+returns c = rw (c .answered .ensures) (runs-none _ _ _ _ _ _ _ _ _ _ (c .before .before .before .before .before .before .before .before .before .before .before .loop .inv) (c .before .before .before .before .before .before .top-of .result) (c .before .before .before .before .before .before .before .before .before .before .loop-test .taken) (tops-queue _ _ _ _ _ _ _ _ _ _ (c .before .before .before .before .before .before .before .before .before .before .before .loop .inv) (c .before .before .before .before .before .before .top-of .result) (c .before .before .before .before .before .before .top-of .ensures)) (c .before .before .before .before .enum-told .given .1))
 
 enum-known-top : tie.Need-enum-known-top Inv-loop μ-loop
 enum-known-top c = search needs
@@ -112,7 +112,7 @@ enum-told-2 : tie.Need-enum-told-2 Inv-loop μ-loop
 enum-told-2 c = search needs
 
 returns-2 : tie.Need-returns-2 Inv-loop μ-loop
-returns-2 c = runs-at _ _ _ _ _ _ _ _ _ _ (c .before .before .before .before .before .before .before .before .before .before .before .before .before .before .before .before .before .before .before .before .before .loop .inv) _ _ _ (c .before .before .before .before .before .before .before .before .before .before .before .before .before .before .before .before .before .before .before .before .loop-test .taken) (c .before .before .before .before .before .before .before .before .added .ensures) (look (c .before .before .before .before .before) Runs (c .before .before .before .enum-told2 .given .1))
+returns-2 c = rw (c .answered2 .ensures) (runs-at _ _ _ _ _ _ _ _ _ _ (c .before .before .before .before .before .before .before .before .before .before .before .before .before .before .before .before .before .before .before .before .before .before .loop .inv) _ _ _ (c .before .before .before .before .before .before .before .before .before .before .before .before .before .before .before .before .before .before .before .before .before .loop-test .taken) (c .before .before .before .before .before .before .before .before .before .added .ensures) (look (c .before .before .before .before .before .before) Runs (c .before .before .before .before .enum-told2 .given .1)))
 
 enum-told-3 : tie.Need-enum-told-3 Inv-loop μ-loop
 enum-told-3 c = search needs
@@ -216,7 +216,7 @@ loop-again-4 c =
     (freed-some (n .timeslices) (s .order) (s .«live_timeslices») _ _ _ (Behind _) (first .result) (w .entries) (w .fits) (a .ranked) (first .ensures .0) (first .ensures .1) _ _ refl (c .before .before .before .first2 .given .1) (c .released2 .ensures))
 
 returns-3 : tie.Need-returns-3 Inv-loop μ-loop
-returns-3 c = out _ _ _ _ _ _ _ _ _ _ (c .before .loop .inv) (c .loop-test .left)
+returns-3 c = rw (c .answered3 .ensures) (out _ _ _ _ _ _ _ _ _ _ (c .before .before .loop .inv) (c .before .loop-test .left))
 
 pub choose-spec : {M : Type 1} → statement M
 choose-spec =
@@ -231,6 +231,7 @@ choose-spec =
     sub-looks
     top-of-requires
     enum-told
+    (λ _ _. tt)
     returns
     enum-known-top
     index-requires-2
@@ -243,6 +244,7 @@ choose-spec =
     element-copy-out-z
     judged-requires
     enum-told-2
+    (λ _ _. tt)
     returns-2
     enum-told-3
     donated-requires
@@ -269,4 +271,5 @@ choose-spec =
     released-requires-2
     loop-less-4
     loop-again-4
+    (λ _ _. tt)
     returns-3)
