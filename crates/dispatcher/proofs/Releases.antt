@@ -2,13 +2,15 @@
 use Prim.Native.Nat.{ℕ, suc, _+_, _≤_, _<_}
 use mathlib.Core.Path.{_≡_, refl, sym, _∙_, ap}
 use mathlib.Core.List.{List, map}
-use mathlib.Core.Bool.{Bool}
+use mathlib.Core.Bool.{Bool, true, false, cond}
 use mathlib.Core.Option.{Option, none, some}
 use native.Mathlib.Omega.{arith}
 use native.Mathlib.Numerals.{add-one}
 use lib.ListN.{length, getD, set, take, drop, length-set, length-map}
 use lib.Seq.{map-set-same, set-out}
+use lib.Dec.{eqb}
 use Rattle.rules.specs.declared.Place.{Place}
+use Rattle.rules.specs.declared.Place.the-variants.{Queue, Behind}
 use Rattle.rules.specs.declared.Timeslice.{Timeslice}
 use Rattle.rules.specs.State.{Slice, State, placeAt, withPlaces}
 use Rattle.rules.specs.Order.{topmost}
@@ -37,13 +39,14 @@ module _ (at : Place → Bool) (q n : ℕ) (order : List ℕ) (before now : List
   unfolding releasedPlaces
   next = rw (turn order n i full fits short) at (m .rest)
 
-  -- one timeslice is moved
-  pub move : (k : ℕ) (y : Timeslice) → k ≡ t → y ≡ withPlace (releasedPlace at q t (getD now k freeTimeslice .place)) (getD now k freeTimeslice)
-      → Moving at q n order before (set now k y) (i + 1)
-  move k y e new =
+  -- a timeslice of the set is moved
+  pub move : (k : ℕ) (y : Timeslice) → k ≡ t → at (getD now k freeTimeslice .place) ≡ true
+      → y ≡ withPlace (cond (eqb t q) Queue (Behind q)) (getD now k freeTimeslice) → Moving at q n order before (set now k y) (i + 1)
+  move k y e taken new =
       let x = getD now k freeTimeslice in
-      let place : releasedPlace at q t (x .place) ≡ releasedPlace at q t (placeAt (map placeOf now) t) =
-      ap (releasedPlace at q t) (sym (place-at now k) ∙ ap (placeAt (map placeOf now)) e) in
+      let goes : releasedPlace at q t (x .place) ≡ cond (eqb t q) Queue (Behind q) = rw taken refl in
+      let place : cond (eqb t q) Queue (Behind q) ≡ releasedPlace at q t (placeAt (map placeOf now) t) =
+      sym goes ∙ ap (releasedPlace at q t) (sym (place-at now k) ∙ ap (placeAt (map placeOf now)) e) in
       let stored : map placeOf (set now k y) ≡ set (map placeOf now) t (releasedPlace at q t (placeAt (map placeOf now) t)) =
       map-set placeOf now k y ∙ ap (λ (p : Place). set (map placeOf now) k p) (ap placeOf new ∙ place)
       ∙ ap (λ (j : ℕ). set (map placeOf now) j (releasedPlace at q t (placeAt (map placeOf now) t))) e in
@@ -53,6 +56,17 @@ module _ (at : Place → Bool) (q n : ℕ) (order : List ℕ) (before now : List
         slices = map-set-same sliceOf now k y freeTimeslice (ap sliceOf new) ∙ m .slices;
         rest = rw (add-one, stored) next;
       }
+
+  -- a timeslice that is not in the set stays where it is
+  pub stay : (k : ℕ) → k ≡ t → at (getD now k freeTimeslice .place) ≡ false → Moving at q n order before now (i + 1)
+  stay k e left =
+      let x = getD now t freeTimeslice in
+      let stands : placeAt (map placeOf now) t ≡ x .place = place-at now t in
+      let left-there : at (x .place) ≡ false = ap (λ (j : ℕ). at (getD now j freeTimeslice .place)) (sym e) ∙ left in
+      let keeps : releasedPlace at q t (placeAt (map placeOf now) t) ≡ x .place = rw (stands, left-there) refl in
+      let same : set (map placeOf now) t (releasedPlace at q t (placeAt (map placeOf now) t)) ≡ map placeOf now =
+      ap (set (map placeOf now) t) keeps ∙ sym (map-set placeOf now t x) ∙ map-set-same placeOf now t x freeTimeslice refl in
+      record { inside = omega (arith, short); full = m .full; slices = m .slices; rest = rw add-one (rw same at next) }
 
   -- an entry that is no timeslice's number moves nothing
   pub skip : (k : ℕ) → k ≡ t → 128 ≤ k → Moving at q n order before now (i + 1)

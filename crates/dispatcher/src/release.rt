@@ -1,9 +1,12 @@
 // Document 01, "Release and choice": the release.
 ghost use mathlib.Core.Path.{_≡_};
+ghost use mathlib.Core.Bool.{cond};
 ghost use mathlib.Core.List.{map};
 ghost use Prim.Native.Nat.{_≤_};
+ghost use lib.Dec.{eqb};
 ghost use lib.ListN.{take};
-ghost use Rattle.rules.specs.Release.{releasedPlace, releasedPlaces};
+ghost use Rattle.rules.specs.declared.Place.the-variants.{Queue, Behind};
+ghost use Rattle.rules.specs.Release.{releasedPlaces};
 ghost use Rattle.dispatcher.specs.Shown.{sliceOf, placeOf};
 ghost use Rattle.dispatcher.specs.Sets.{setOf, withPlace};
 ghost use Rattle.dispatcher.specs.Releasing.{placesAfter, Replaced};
@@ -14,24 +17,20 @@ use crate::ranks::topmost;
 use rules::Place;
 use rules::Timeslice;
 
-// The topmost one goes to Queue, the rest of the set go Behind that one.
-pub fn moved(x: Timeslice, t: u8, set: Place, first: u8) -> Timeslice
-    ensures { λ r. ⌜ r ≡ withPlace (releasedPlace (setOf set) first t (x .place)) x ⌝ }
+// The topmost one of a released set goes to Queue, the rest go Behind that one.
+pub fn moved(x: Timeslice, t: u8, first: u8) -> Timeslice
+    ensures { λ r. ⌜ r ≡ withPlace (cond (eqb t first) Queue (Behind first)) x ⌝ }
 {
-    let place = x.place;
-    if in_set(place, set) {
-        if t == first {
-            return Timeslice {
-                place: Place::Queue,
-                ..x
-            };
-        }
+    if t == first {
         return Timeslice {
-            place: Place::Behind(first),
+            place: Place::Queue,
             ..x
         };
     }
-    x
+    Timeslice {
+        place: Place::Behind(first),
+        ..x
+    }
 }
 
 pub fn released(
@@ -52,8 +51,11 @@ pub fn released(
         let k = index(t);
         if k < 128 {
             let x = timeslices[k];
-            let y = moved(x, t, set, first);
-            timeslices[k] = y;
+            let place = x.place;
+            if in_set(place, set) {
+                let y = moved(x, t, first);
+                timeslices[k] = y;
+            }
         }
     }
     timeslices

@@ -1,9 +1,9 @@
 use Prim.Native.Nat.{_-_}
-use mathlib.Core.Path.{_≡_}
+use mathlib.Core.Path.{_≡_, sym, _∙_}
 use native.Mathlib.Omega.{arith}
 use borrow.Author.Needs.{needs}
 use Rattle.dispatcher.specs.Sets.{setOf}
-use Rattle.dispatcher.proofs.Releases.{Moving, begin, move, skip, done}
+use Rattle.dispatcher.proofs.Releases.{Moving, begin, move, stay, skip, done}
 use Rattle.dispatcher.proofs.release.released.Statement.{statement}
 use Rattle.dispatcher.proofs.release.released.Tie as tie
 
@@ -36,6 +36,9 @@ mul-x c = search needs
 array-copy-out-x : tie.Need-array-copy-out-x Inv-loop μ-loop
 array-copy-out-x c = search needs
 
+in-set-requires : tie.Need-in-set-requires Inv-loop μ-loop
+in-set-requires c κs = tt
+
 moved-requires : tie.Need-moved-requires Inv-loop μ-loop
 moved-requires c κs = tt
 
@@ -50,15 +53,24 @@ loop-less c = omega arith
 
 loop-again : tie.Need-loop-again Inv-loop μ-loop
 loop-again c =
-    let s = c .before .before .before .before .before .before .before in
-    let inv = c .before .before .before .before .before .loop .inv in
-    (inv .0, move (setOf (s .args .set)) (s .args .first) (s .args .live) (s .args .t2) (s .args .t1) _ _ (s .good .1 .0 .1 .0 .1) (s .pre) (inv .1) (omega arith) _ _ (c .before .before .before .index2 .ensures) (c .moved .ensures))
+    let s = c .before .before .before .before .before .before .before .before .before in
+    let inv = c .before .before .before .before .before .before .before .loop .inv in
+    (inv .0, move (setOf (s .args .set)) (s .args .first) (s .args .live) (s .args .t2) (s .args .t1) _ _ (s .good .1 .0 .1 .0 .1) (s .pre) (inv .1) (omega arith) _ _ (c .before .before .before .before .before .index2 .ensures) (sym (c .before .before .in-set .ensures) ∙ c .before .if2 .taken) (c .moved .ensures))
 
 loop-less-2 : tie.Need-loop-less-2 Inv-loop μ-loop
 loop-less-2 c = omega arith
 
 loop-again-2 : tie.Need-loop-again-2 Inv-loop μ-loop
 loop-again-2 c =
+    let s = c .before .before .before .before .before .before .before .before in
+    let inv = c .before .before .before .before .before .before .loop .inv in
+    (inv .0, stay (setOf (s .args .set)) (s .args .first) (s .args .live) (s .args .t2) (s .args .t1) _ _ (s .good .1 .0 .1 .0 .1) (s .pre) (inv .1) (omega arith) _ (c .before .before .before .before .index2 .ensures) (sym (c .before .in-set .ensures) ∙ c .if2 .left))
+
+loop-less-3 : tie.Need-loop-less-3 Inv-loop μ-loop
+loop-less-3 c = omega arith
+
+loop-again-3 : tie.Need-loop-again-3 Inv-loop μ-loop
+loop-again-3 c =
     let s = c .before .before .before .before .before in
     let inv = c .before .before .before .loop .inv in
     (inv .0, skip (setOf (s .args .set)) (s .args .first) (s .args .live) (s .args .t2) (s .args .t1) _ _ (s .good .1 .0 .1 .0 .1) (s .pre) (inv .1) (omega arith) _ (c .before .index2 .ensures) (c .if1 .left))
@@ -81,6 +93,7 @@ released-spec =
     index-requires-2
     mul-x
     array-copy-out-x
+    in-set-requires
     moved-requires
     mul-timeslices
     array-set-from-timeslices
@@ -88,4 +101,6 @@ released-spec =
     loop-again
     loop-less-2
     loop-again-2
+    loop-less-3
+    loop-again-3
     returns)
