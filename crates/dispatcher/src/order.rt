@@ -4,7 +4,7 @@ ghost use mathlib.Core.List.{map};
 ghost use Prim.Native.Nat.{_≤_};
 ghost use lib.ListN.{take};
 ghost use Rattle.rules.specs.State.{ownerAt};
-ghost use Rattle.rules.specs.Tests.{member as memberOf, some-of};
+ghost use Rattle.rules.specs.Tests.{member as memberOf, someOf};
 ghost use lib.Dec.{eqb};
 ghost use Rattle.rules.specs.Order.{earlier as earlierOf, standsAbove};
 ghost use Rattle.dispatcher.specs.Shown.{sliceOf};
@@ -117,7 +117,7 @@ pub fn member(order: [u8; 128], live: u8, t: u8) -> bool
 // Some timeslice of the turn order has this owner.
 pub fn owns_one(timeslices: [Timeslice; 128], order: [u8; 128], live: u8, n: u8) -> bool
     requires { ⌜ live ≤ 128 ⌝ }
-    ensures { λ r. ⌜ r ≡ some-of (λ t. eqb (ownerAt (map sliceOf timeslices) t) n) (take live order) ⌝ }
+    ensures { λ r. ⌜ r ≡ someOf (λ t. eqb (ownerAt (map sliceOf timeslices) t) n) (take live order) ⌝ }
 {
     let last = index(live);
     let mut i: usize = 0;

@@ -1,5 +1,5 @@
 -- `unfolding computing` opens every definition of specs/, for a proof by computation.
-use Rattle.rules.specs.Tests.{member, distinct, all, some-of, below}
+use Rattle.rules.specs.Tests.{member, distinct, all, someOf, below}
 use Rattle.rules.specs.State.{liveThreads}
 use Rattle.rules.specs.Order.{earlier, standsAbove, topmost}
 use Rattle.rules.specs.Walk.{walkFrom, walk}
@@ -15,5 +15,5 @@ use Rattle.rules.specs.EventFile.{recordsOf, fileOf, recordAt, eventsAft
 use Rattle.rules.specs.Key.{bytes, digits, decimal, columns, line, lines, fileLine, key, plainLines, plainKey}
 
 unfoldable pub computing : Unit {0}
-unfolding member distinct all some-of below liveThreads earlier standsAbove topmost walkFrom walk setHold setService created donate replied aborted setLeft given last without toBack charged refilled releasedPlaces release park retry chooseFrom choose shaped placed settled sound releases create withGiven give callDonates callHelps call reply block wake depletes spends charge abortAfter abort dispatch offer judgeFrom judge plainOffer run after plainRun recordsOf fileOf recordAt eventsAfter fileRefusal eventsOf bytes digits decimal columns line lines fileLine key plainLines plainKey
+unfolding member distinct all someOf below liveThreads earlier standsAbove topmost walkFrom walk setHold setService created donate replied aborted setLeft given last without toBack charged refilled releasedPlaces release park retry chooseFrom choose shaped placed settled sound releases create withGiven give callDonates callHelps call reply block wake depletes spends charge abortAfter abort dispatch offer judgeFrom judge plainOffer run after plainRun recordsOf fileOf recordAt eventsAfter fileRefusal eventsOf bytes digits decimal columns line lines fileLine key plainLines plainKey
 computing = tt

@@ -35,8 +35,8 @@ pub record Midway : Type 0 where
 abbrev pub stays : State → Midway
 stays s = record { state = s; links = 0; chooses = false }
 
-abbrev pub chooses-in : State → Midway
-chooses-in s = record { state = s; links = 0; chooses = true }
+abbrev pub choosesIn : State → Midway
+choosesIn s = record { state = s; links = 0; chooses = true }
 
 -- "if one joined Queue and nothing runs or it stands above the current"
 abbrev pub aboveRunning : State → ℕ → Running → Bool
@@ -72,7 +72,7 @@ callDonates server caller t count s =
 
 -- Call, server not Idle: "the caller is Helping; choice"
 unfoldable pub callHelps : ℕ → ℕ → State → Midway
-callHelps server caller s = chooses-in (withThreads (setHold caller (Helping server) (s .threads)) s)
+callHelps server caller s = choosesIn (withThreads (setHold caller (Helping server) (s .threads)) s)
 
 abbrev pub callAt : ℕ → ℕ → ℕ → ℕ → State → Hold → Midway
 callAt server caller t count s Ready = callHelps server caller s
@@ -90,9 +90,9 @@ call server s = callBy server s (s .running)
 
 -- Reply: "Count above 0: that caller runs, count − 1. Count 0: choice." (Above 0 there is a caller.)
 abbrev pub replyTo : ℕ → ℕ → State → Service → Midway
-replyTo t count s Nobody = chooses-in s
-replyTo t count s (Serving caller) = cond (ltb 0 count) (stays (withRunning (Runs caller t (count - 1)) s)) (chooses-in s)
-replyTo t count s Orphan = chooses-in s
+replyTo t count s Nobody = choosesIn s
+replyTo t count s (Serving caller) = cond (ltb 0 count) (stays (withRunning (Runs caller t (count - 1)) s)) (choosesIn s)
+replyTo t count s Orphan = choosesIn s
 
 abbrev pub replyBy : State → Running → Midway
 replyBy s Nothing = stays s
@@ -104,7 +104,7 @@ reply s = replyBy s (s .running)
 -- Block: "the running thread is Blocked; choice"
 abbrev pub blockBy : State → Running → Midway
 blockBy s Nothing = stays s
-blockBy s (Runs n t count) = chooses-in (withThreads (setHold n Blocked (s .threads)) s)
+blockBy s (Runs n t count) = choosesIn (withThreads (setHold n Blocked (s .threads)) s)
 
 unfoldable pub block : State → Midway
 block s = blockBy s (s .running)
@@ -115,7 +115,7 @@ wake n s = releases n (withThreads (setHold n Ready (s .threads)) s)
 
 -- Charge: "At 0 it is refilled to the quantum, goes to the back of the turn order, followers are released; choice."
 unfoldable pub depletes : ℕ → State → Midway
-depletes t s = chooses-in (release (behind t) (withTimeslices (refilled t (s .slices)) (toBack t (s .order)) s))
+depletes t s = choosesIn (release (behind t) (withTimeslices (refilled t (s .slices)) (toBack t (s .order)) s))
 
 unfoldable pub spends : ℕ → ℕ → State → Midway
 spends t units s = stays (withTimeslices (charged t units (s .slices)) (s .order) s)

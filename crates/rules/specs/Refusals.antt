@@ -4,7 +4,7 @@ use mathlib.Core.Bool.{Bool, cond, not, _||_}
 use lib.Dec.{ltb, eqb}
 use Rattle.rules.specs.declared.Event.{Event}
 use Rattle.rules.specs.declared.Event.the-variants.{Create, Give, Call, Reply, Block, Wake, Charge, Abort}
-use Rattle.rules.specs.Tests.{member, some-of}
+use Rattle.rules.specs.Tests.{member, someOf}
 use Rattle.rules.specs.State.{Plain, holdAt, liveAt, ownerAt, sliceAt, nothingRuns, runningThread, currentTimeslice}
 pub use Rattle.rules.specs.Holds.{linked}
 use Rattle.rules.specs.Holds.{isBlocked, serverAt}
@@ -18,7 +18,7 @@ abbrev pub aboveLimit : ℕ → Bool
 aboveLimit n = ltb 127 n
 
 abbrev pub ownsOne : Plain → ℕ → Bool
-ownsOne p n = some-of (λ t. eqb (ownerAt (p .slices) t) n) (p .order)
+ownsOne p n = someOf (λ t. eqb (ownerAt (p .slices) t) n) (p .order)
 
 abbrev pub refusal : Event → Plain → ℕ
 refusal (Create n r) p = aboveLimit n gives 2 else liveAt (p .threads) n gives 3 else 0

@@ -20,9 +20,9 @@ all f [] = true
 all f (x ∷ xs) = f x && all f xs
 
 -- the test holds of some element
-unfoldable pub some-of : (ℕ → Bool) → List ℕ → Bool
-some-of f [] = false
-some-of f (x ∷ xs) = f x || some-of f xs
+unfoldable pub someOf : (ℕ → Bool) → List ℕ → Bool
+someOf f [] = false
+someOf f (x ∷ xs) = f x || someOf f xs
 
 -- the test holds of every number below n
 unfoldable pub below : ℕ → (ℕ → Bool) → Bool

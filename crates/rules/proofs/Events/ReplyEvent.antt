@@ -19,7 +19,7 @@ use Rattle.rules.specs.Walk.{linkOf, donation, noLinks, donated}
 use Rattle.rules.specs.Threads.{replied}
 use Rattle.rules.specs.Sound.{serverAt}
 use Rattle.rules.specs.Refusals.{refusal}
-use Rattle.rules.specs.Events.{reply, replyBy, replyTo, chooses-in}
+use Rattle.rules.specs.Events.{reply, replyBy, replyTo, choosesIn}
 use Rattle.rules.specs.Plain.{update, plainReply, plainReplyTo, plainThreads}
 use Rattle.rules.proofs.Basics.Views.{Two, yes-true, no-false, two, clash}
 use Rattle.rules.proofs.Links.Chains.{linkAt, To, stop, call, help, Ends, one-call, last, Split, same, via, split}
@@ -36,7 +36,7 @@ module _ (s : State) (x : Sound s) (server t count : ℕ) (a : Active s server t
   ts′ = replied server (s .threads)
 
   -- nobody waits for the reply
-  orphan : serviceAt (s .threads) server ≡ Orphan → Handed s (chooses-in (withThreads ts′ s)) (plainThreads ts′ (forget s))
+  orphan : serviceAt (s .threads) server ≡ Orphan → Handed s (choosesIn (withThreads ts′ s)) (plainThreads ts′ (forget s))
   orphan serves =
       let u = orphan-update (s .threads) server (x .mid .shape .sane) (a .runs .ready) serves in
       record {

@@ -3,7 +3,7 @@ use Rattle.rules.specs.declared.Hold.the-variants.{Blocked}
 use Rattle.rules.specs.declared.Event.the-variants.{Block}
 use Rattle.rules.specs.State.{withThreads}
 use Rattle.rules.specs.Threads.{setHold}
-use Rattle.rules.specs.Events.{block, chooses-in}
+use Rattle.rules.specs.Events.{block, choosesIn}
 use Rattle.dispatcher.specs.Shown.{shown}
 use Rattle.dispatcher.proofs.Answering.{refuse, accept, chosen, sound-stored}
 use Rattle.dispatcher.proofs.Stored.{live-hold}
@@ -37,7 +37,7 @@ returns-2 c =
     let s = c .before .before .before .before .before .before in
     let m = s .args .self in
     let n = c .before .before .before .before .running .given .0 .0 in
-    accept Block m (s .pre) (rw (c .before .before .before .before .running .given .1) refl) (chooses-in (withThreads (setHold n Blocked (m .threads)) (shown m))) (rw (c .before .before .before .before .running .given .1) refl) _
+    accept Block m (s .pre) (rw (c .before .before .before .before .running .given .1) refl) (choosesIn (withThreads (setHold n Blocked (m .threads)) (shown m))) (rw (c .before .before .before .before .running .given .1) refl) _
     (chosen (threadsTo _ m) 0 _ _ (threads-shown m _ _ (c .before .with-hold .ensures)) (c .choose .ensures))
 
 pub dispatch-block-spec : {M : Type 1} → statement M

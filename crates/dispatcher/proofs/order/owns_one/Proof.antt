@@ -6,7 +6,7 @@ use borrow.Author.Tests.{eq-eqb, ne-eqb}
 use lib.Dec.{eqb}
 use Rattle.dispatcher.proofs.Along.{Along, begin, here, next, out}
 use mathlib.Core.List.{map}
-use Rattle.rules.specs.Tests.{some-of}
+use Rattle.rules.specs.Tests.{someOf}
 use Rattle.rules.specs.State.{ownerAt}
 use Rattle.dispatcher.specs.Shown.{sliceOf}
 use Rattle.dispatcher.proofs.Tables.{owns, owns-none}
@@ -14,7 +14,7 @@ use Rattle.dispatcher.proofs.order.owns_one.Statement.{statement}
 use Rattle.dispatcher.proofs.order.owns_one.Tie as tie
 
 abbrev Inv-loop : tie.InvT-loop
-Inv-loop live n timeslices order last i₀ i = Along (λ l. some-of (λ t. eqb (ownerAt (map sliceOf timeslices) t) n) l) live order last i
+Inv-loop live n timeslices order last i₀ i = Along (λ l. someOf (λ t. eqb (ownerAt (map sliceOf timeslices) t) n) l) live order last i
 
 abbrev μ-loop : tie.MeasureT-loop
 μ-loop live n timeslices order last i₀ i = live - i
@@ -41,7 +41,7 @@ array-copy-out-x : tie.Need-array-copy-out-x Inv-loop μ-loop
 array-copy-out-x c = search needs
 
 returns : tie.Need-returns Inv-loop μ-loop
-unfolding some-of
+unfolding someOf
 returns c =
     let s = c .before .before .before .before .before .before .before .before in
     let o = owns (s .args .t1) _ _ _ (c .before .before .before .before .index2 .ensures) refl in
@@ -51,14 +51,14 @@ loop-less : tie.Need-loop-less Inv-loop μ-loop
 loop-less c = omega arith
 
 loop-again : tie.Need-loop-again Inv-loop μ-loop
-unfolding some-of
+unfolding someOf
 loop-again c =
     let s = c .before .before .before .before .before .before .before .before in
     let o = owns (s .args .t1) _ _ _ (c .before .before .before .before .index2 .ensures) refl in
     next _ _ _ _ _ (s .good .1 .0 .1 .0 .1) (s .pre) (c .before .before .before .before .before .before .loop .inv) (c .before .before .before .before .before .loop-test .taken) (rw (ne-eqb _ _ (λ e. c .if2 .left (o ∙ e))) refl)
 
 returns-2 : tie.Need-returns-2 Inv-loop μ-loop
-unfolding some-of
+unfolding someOf
 returns-2 c =
     let s = c .before .before .before .before .before .before in
     let o = owns-none (s .args .t1) _ _ 0 (s .good .0 .1 .0 .1) (c .before .before .index2 .ensures) (c .before .if1 .left) refl in
@@ -68,14 +68,14 @@ loop-less-2 : tie.Need-loop-less-2 Inv-loop μ-loop
 loop-less-2 c = omega arith
 
 loop-again-2 : tie.Need-loop-again-2 Inv-loop μ-loop
-unfolding some-of
+unfolding someOf
 loop-again-2 c =
     let s = c .before .before .before .before .before .before in
     let o = owns-none (s .args .t1) _ _ 0 (s .good .0 .1 .0 .1) (c .before .before .index2 .ensures) (c .before .if1 .left) refl in
     next _ _ _ _ _ (s .good .1 .0 .1 .0 .1) (s .pre) (c .before .before .before .before .loop .inv) (c .before .before .before .loop-test .taken) (rw (ne-eqb _ _ (λ e. c .if3 .left (o ∙ e))) refl)
 
 returns-3 : tie.Need-returns-3 Inv-loop μ-loop
-unfolding some-of
+unfolding someOf
 returns-3 c = out _ _ _ _ _ (c .before .loop .inv) (c .loop-test .left)
 
 pub owns-one-spec : {M : Type 1} → statement M
