@@ -4,7 +4,6 @@ use mathlib.Core.Path.{_≡_, refl, sym, _∙_, subst}
 use mathlib.Core.Bool.{true}
 use Rattle.rules.specs.declared.Event.{Event}
 use Rattle.rules.specs.State.{State, forget}
-use Rattle.rules.specs.Sound.{sound}
 use Rattle.rules.specs.Refusals.{refusal}
 use Rattle.rules.specs.Choice.{choose}
 use Rattle.rules.specs.Events.{Midway, midway, settle, dispatch, dispatchAfter}
@@ -13,15 +12,7 @@ use Rattle.dispatcher.specs.declared.Answered.{Answered}
 use Rattle.dispatcher.specs.Shown.{shown, stored, soundMachine}
 use Rattle.dispatcher.specs.Choosing.{Settled, Chosen}
 use Rattle.dispatcher.specs.Promise.{Answers}
-use Rattle.dispatcher.proofs.Tests.{and-left, and-right}
-
-pub sound-stored : (m : Machine) → soundMachine m ≡ true → stored m ≡ true
-unfolding soundMachine
-sound-stored m e = and-left (stored m) (sound (shown m)) e
-
-pub sound-shown : (m : Machine) → soundMachine m ≡ true → sound (shown m) ≡ true
-unfolding soundMachine
-sound-shown m e = and-right (stored m) (sound (shown m)) e
+use Rattle.dispatcher.proofs.Stored.{sound-stored}
 
 module _ (e : Event) (m : Machine) where
   pub refuse : {n : ℕ} {r : Answered} → r ≡ record { machine = m; refusal = suc n; links = 0 } → refusal e (forget (shown m)) ≡ suc n → Answers (dispatch e (shown m)) m r

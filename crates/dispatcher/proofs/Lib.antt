@@ -1,22 +1,13 @@
-pub mod Tables
-pub mod Walks
-pub mod Releases
-pub mod Rankings
-pub mod Recodings
-pub mod Tests
+-- The laws behind the stored machine's events and doors, and the theorems about the code. The proof of a method stands in Machine/, under
+-- its own name.
 pub mod Stored
-pub mod Choices
-pub mod Along
-pub mod Shifts
-pub mod Above
+pub mod ChoiceLoop
 pub mod Settles
 pub mod Answering
-pub mod Changes
-pub mod Facts
-pub mod Given
-pub mod Clauses
-pub mod Loops
-pub mod Whole
+pub mod ThreadChanges
+pub mod Current
+pub mod Pigeonhole
+pub mod TimesliceChanges
 pub mod Offering
 pub mod OneForm
 pub mod Runs

@@ -2,19 +2,19 @@
 use Prim.Native.Nat.{ℕ, _≤_, _<_}
 use mathlib.Core.Path.{_≡_, refl, sym, ap, _∙_}
 use mathlib.Core.List.{List, [], _∷_, map}
-use mathlib.Core.Bool.{true, false, _||_}
+use mathlib.Core.Bool.{true}
 use native.Mathlib.Omega.{arith}
 use lib.ListN.{length, getD, take}
 use lib.Seq.{length-take-le, getD-take, ext-getD}
-use lib.Dec.{ltb, leb, eqb}
-use borrow.Author.Tests.{eqb-true, leb-true, ltb-true}
+use lib.Dec.{ltb}
+use borrow.Author.Tests.{ltb-true, ltb-false}
 use Rattle.rules.specs.declared.Timeslice.{Timeslice}
-use Rattle.rules.specs.Tests.{below}
 use Rattle.rules.specs.State.{State, limit, liveThreads}
-use Rattle.rules.proofs.Basics.Views.{Two, yes-true, no-false, two, and3}
-use Rattle.rules.proofs.Basics.Members.{below-at}
+use Rattle.rules.proofs.Basics.Views.{Two, yes-true, no-false, two}
 use Rattle.dispatcher.specs.declared.Machine.{Machine}
-use Rattle.dispatcher.specs.Shown.{sliceOf, placeOf, shown, stored}
+use Rattle.tables.specs.Timeslices.{sliceOf, placeOf}
+use Rattle.dispatcher.specs.Shown.{shown, stored}
+use Rattle.dispatcher.proofs.Stored.{live-is, turns-fit, free-zero}
 
 -- a timeslice is what it is without its place, and its place
 same-timeslice : (x y : Timeslice) → sliceOf x ≡ sliceOf y → placeOf x ≡ placeOf y → x ≡ y
@@ -32,29 +32,8 @@ same-timeslices (x ∷ xs) (y ∷ ys) s p =
     let tail-places : map placeOf xs ≡ map placeOf ys = cc in
     λ i. same-timeslice x y head-slice head-place i ∷ same-timeslices xs ys tail-slices tail-places i
 
--- what `stored` says
-record Stored (m : Machine) : Type 0 where
-  counted : m .«live_threads» ≡ liveThreads (m .threads)
-  fits : m .«live_timeslices» ≤ limit
-  clear : (i : ℕ) → i < limit → ltb i (m .«live_timeslices») ≡ false → getD (m .order) i 0 ≡ 0
-
-stored-of : (m : Machine) → stored m ≡ true → Stored m
-unfolding stored
-stored-of m e =
-    let z =
-    and3 (eqb (m .«live_threads») (liveThreads (m .threads))) (leb (m .«live_timeslices») limit)
-    (below limit (λ i. ltb i (m .«live_timeslices») || eqb (getD (m .order) i 0) 0)) e in
-    record {
-      counted = eqb-true (m .«live_threads») (liveThreads (m .threads)) (z .0);
-      fits = leb-true (m .«live_timeslices») limit (z .1);
-      clear =
-          λ i h late.
-          eqb-true (getD (m .order) i 0) 0
-          (rw late at (below-at (λ j. ltb j (m .«live_timeslices») || eqb (getD (m .order) j 0) 0) limit (z .2) i h));
-    }
-
 -- two turn orders of the same length with the same front, and 0 behind it
-same-order : (m n : Machine) → Stored m → Stored n → length (m .order) ≡ limit → length (n .order) ≡ limit
+same-order : (m n : Machine) → stored m ≡ true → stored n ≡ true → length (m .order) ≡ limit → length (n .order) ≡ limit
     → m .«live_timeslices» ≡ n .«live_timeslices» → take (m .«live_timeslices») (m .order) ≡ take (n .«live_timeslices») (n .order)
     → m .order ≡ n .order
 same-order m n x y full full′ live front =
@@ -66,23 +45,23 @@ same-order m n x y full full′ live front =
         sym (getD-take (m .«live_timeslices») (m .order) i 0 early)
         ∙ ap (λ (l : List ℕ). getD l i 0) front
         ∙ getD-take (n .«live_timeslices») (n .order) i 0 (omega arith)
-    by i h (no-false e) = x .clear i h e ∙ sym (y .clear i h (ap (ltb i) (sym live) ∙ e))
+    by i h (no-false e) =
+        let late = ltb-false i (m .«live_timeslices») e in
+        free-zero m x i late h ∙ sym (free-zero n y i (omega arith) h)
 
 -- THE ONE FORM. (An array of 128 has 128 entries: the lengths hold of every machine that the type can hold.)
 pub one-form : (m n : Machine) → length (m .order) ≡ limit → length (n .order) ≡ limit
     → stored m ≡ true → stored n ≡ true → shown m ≡ shown n → m ≡ n
 one-form m n full full′ h h′ same =
-    let x = stored-of m h in
-    let y = stored-of n h′ in
     let threads = ap (λ (s : State). s .threads) same in
     let front = ap (λ (s : State). s .order) same in
     let live : m .«live_timeslices» ≡ n .«live_timeslices» =
-    sym (length-take-le (m .«live_timeslices») (m .order) (omega (arith, full, x .fits)))
+    sym (length-take-le (m .«live_timeslices») (m .order) (omega (arith, full, turns-fit m h)))
     ∙ ap length front
-    ∙ length-take-le (n .«live_timeslices») (n .order) (omega (arith, full′, y .fits)) in
+    ∙ length-take-le (n .«live_timeslices») (n .order) (omega (arith, full′, turns-fit n h′)) in
     let timeslices = same-timeslices (m .timeslices) (n .timeslices) (ap (λ (s : State). s .slices) same) (ap (λ (s : State). s .places) same) in
-    let order = same-order m n x y full full′ live front in
-    let counted : m .«live_threads» ≡ n .«live_threads» = x .counted ∙ ap liveThreads threads ∙ sym (y .counted) in
+    let order = same-order m n h h′ full full′ live front in
+    let counted : m .«live_threads» ≡ n .«live_threads» = live-is m h ∙ ap liveThreads threads ∙ sym (live-is n h′) in
     λ i. record {
       threads = threads i;
       timeslices = timeslices i;

@@ -19,6 +19,7 @@ use Rattle.dispatcher.specs.declared.Machine.{Machine}
 use Rattle.dispatcher.specs.declared.Answered.{Answered}
 use Rattle.dispatcher.specs.Shown.{shown, stored, soundMachine, emptyMachine}
 use Rattle.dispatcher.specs.Promise.{Answers}
+use Rattle.dispatcher.proofs.Stored.{sound-shown}
 
 -- what document 01 answers to an event offered to a stored machine
 abbrev pub answerTo : Event → Machine → events.Answered
@@ -34,14 +35,9 @@ pub data Runs : Machine → List Event → List Answered → Type 0 where
 abbrev pub codeSeen : Answered → Seen
 codeSeen r = record { refusal = r .refusal; running = r .machine .running; links = linksOf (r .machine .threads) }
 
--- a stored machine is sound if the state it shows is
-shows-sound : (m : Machine) → soundMachine m ≡ true → sound (shown m) ≡ true
-unfolding soundMachine
-shows-sound m h = and-true-right (stored m) (sound (shown m)) h
-
 -- the code's answer is that of the definitions' machine
 as-offered : (e : Event) (m : Machine) → soundMachine m ≡ true → answerTo e m ≡ events.offer e (shown m)
-as-offered e m h = ap (λ (b : Bool). events.offerIf b e (shown m)) h ∙ sym (offer-sound e (shown m) (shows-sound m h))
+as-offered e m h = ap (λ (b : Bool). events.offerIf b e (shown m)) h ∙ sym (offer-sound e (shown m) (sound-shown m h))
 
 -- DEMAND 1, of the code. An event offered to a sound machine hands back a sound machine.
 pub answered-sound : (e : Event) (m : Machine) (r : Answered) → fits e ≡ true → soundMachine m ≡ true → Answers (answerTo e m) m r → soundMachine (r .machine) ≡ true
@@ -49,7 +45,7 @@ unfolding soundMachine
 answered-sound e m r f h a =
     and-true-both (stored (r .machine)) (sound (shown (r .machine)))
     (a .exact ∙ and-true-left (stored m) (sound (shown m)) h)
-    (ap sound (a .state ∙ ap (λ (z : events.Answered). z .state) (as-offered e m h)) ∙ accepted-sound e (shown m) f (shows-sound m h))
+    (ap sound (a .state ∙ ap (λ (z : events.Answered). z .state) (as-offered e m h)) ∙ accepted-sound e (shown m) f (sound-shown m h))
 
 -- The same through the inner door, which does not test soundness: its answer is the definitions' on a sound machine.
 pub dispatched-sound : (e : Event) (m : Machine) (r : Answered) → fits e ≡ true → soundMachine m ≡ true → Answers (events.dispatch e (shown m)) m r → soundMachine (r .machine) ≡ true
@@ -76,7 +72,7 @@ as-run (steps {m = m} {e = e} {es = es} {r = r} a rest) f h =
 
 pub code-equal : {m : Machine} {es : List Event} {rs : List Answered} → Runs m es rs → allFit es ≡ true → soundMachine m ≡ true
     → map codeSeen rs ≡ map plainSeen (plainRun es (forget (shown m)))
-code-equal {m} {es} x f h = as-run x f h ∙ equal-from es (shown m) f (shows-sound m h)
+code-equal {m} {es} x f h = as-run x f h ∙ equal-from es (shown m) f (sound-shown m h)
 
 -- from `Machine::empty()`
 pub empty-machine-sound : soundMachine emptyMachine ≡ true
@@ -102,7 +98,7 @@ unfolding allFit
 code-within stops f h = tt
 code-within (steps {m = m} {e = e} {es = es} {r = r} {rs = rs} a rest) f h =
     let fe = and-true-left (fits e) (allFit es) f in
-    let z = agrees e (shown m) (sound-of (shown m) (shows-sound m h)) fe in
+    let z = agrees e (shown m) (sound-of (shown m) (sound-shown m h)) fe in
     let o = as-offered e m h in
     let links : r .links ≡ events.offer e (shown m) .links = a .links ∙ ap (λ (w : events.Answered). w .links) o in
     let plain : forget (shown (r .machine)) ≡ plainOffer e (forget (shown m)) .plain =

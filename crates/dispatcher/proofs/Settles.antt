@@ -15,11 +15,12 @@ use Rattle.rules.specs.Choice.{Outcome, choose}
 use Rattle.rules.specs.Events.{aboveRunning, overtakes, releases, settleIf, settle}
 use Rattle.dispatcher.specs.declared.Machine.{Machine}
 use Rattle.dispatcher.specs.declared.Answered.{Answered}
-use Rattle.dispatcher.specs.declared.order.Found.{Found}
-use Rattle.dispatcher.specs.declared.order.Found.the-variants.{At, Nothing as None}
-use Rattle.dispatcher.specs.Shown.{placeOf, shown, stored}
-use Rattle.dispatcher.specs.Sets.{found}
-use Rattle.dispatcher.specs.Releasing.{Replaced}
+use Rattle.tables.specs.declared.order.Sought.{Sought}
+use Rattle.tables.specs.declared.order.Sought.the-variants.{At, Nothing as None}
+use Rattle.tables.specs.Timeslices.{placeOf}
+use Rattle.dispatcher.specs.Shown.{shown, stored}
+use Rattle.tables.specs.Sets.{soughtOf}
+use Rattle.tables.specs.Releasing.{Replaced}
 use Rattle.dispatcher.specs.Choosing.{Choosable, before, Settled}
 use Rattle.dispatcher.proofs.Stored.{live-is, stored-with}
 
@@ -45,21 +46,21 @@ over-same s u q Nothing a b = refl
 over-same s u q (Runs n t count) a b = ap₂ (λ ss order. standsAbove ss order q t) a b
 
 -- nobody was On the thread
-pub none-released : (n : ℕ) (m : Machine) (f : Found) (r : Answered) → r ≡ record { machine = m; refusal = 0; links = 0 }
-    → found f ≡ topmostAt (onThread n) (shown m) → f ≡ None → stored m ≡ true → Settled (settle (releases n (shown m))) r
+pub none-released : (n : ℕ) (m : Machine) (f : Sought) (r : Answered) → r ≡ record { machine = m; refusal = 0; links = 0 }
+    → soughtOf f ≡ topmostAt (onThread n) (shown m) → f ≡ None → stored m ≡ true → Settled (settle (releases n (shown m))) r
 unfolding releases release
 none-released n m f r so e is exact =
-    let top : topmostAt (onThread n) (shown m) ≡ none = sym e ∙ ap found is in
+    let top : topmostAt (onThread n) (shown m) ≡ none = sym e ∙ ap soughtOf is in
     rw (so, top) (record { refusal = refl; links = refl; state = refl; exact = exact })
 
 -- the topmost one joined Queue
-module _ (n : ℕ) (m : Machine) (f : Found) (q : ℕ) (ts : List Timeslice) (e : found f ≡ topmostAt (onThread n) (shown m)) (is : f ≡ At q)
+module _ (n : ℕ) (m : Machine) (f : Sought) (q : ℕ) (ts : List Timeslice) (e : soughtOf f ≡ topmostAt (onThread n) (shown m)) (is : f ≡ At q)
     (r : Replaced (m .timeslices) (releasedPlaces (onThread n) q (take (m .«live_timeslices») (m .order)) (map placeOf (m .timeslices))) ts) where
   abbrev freed : Machine
   freed = record { threads = m .threads; timeslices = ts; order = m .order; «live_threads» = m .«live_threads»; «live_timeslices» = m .«live_timeslices»; running = m .running }
 
   top : topmostAt (onThread n) (shown m) ≡ some q
-  top = sym e ∙ ap found is
+  top = sym e ∙ ap soughtOf is
 
   shows : shown freed ≡ release (onThread n) (shown m)
   unfolding release

@@ -3,22 +3,13 @@ use Prim.Native.Nat.{ℕ, _≤_}
 use mathlib.Core.Path.{_≡_}
 use mathlib.Core.Bool.{true}
 use Rattle.rules.specs.declared.Place.{Place}
-use Rattle.rules.specs.declared.Place.the-variants.{On, Stalled}
-use Rattle.rules.specs.Walk.{runs, retries, waits, stalls}
-use Rattle.rules.specs.Walk as walks
+use Rattle.rules.specs.declared.Place.the-variants.{Behind, On, Stalled}
 use Rattle.rules.specs.Choice.{Outcome, choose}
 use Rattle.dispatcher.specs.declared.Machine.{Machine}
 use Rattle.dispatcher.specs.declared.Answered.{Answered}
-use Rattle.dispatcher.specs.declared.choice.Verdict.{Verdict}
-use Rattle.dispatcher.specs.declared.choice.Verdict.the-variants.{Runs, Retries, Waits, Stalls}
+use Rattle.tables.specs.declared.ends.Verdict.{Verdict}
+use Rattle.tables.specs.declared.ends.Verdict.the-variants.{Runs, Retries, Waits, Stalls}
 use Rattle.dispatcher.specs.Shown.{shown, stored}
-
--- what the code's verdict says
-abbrev pub verdictOf : Verdict → walks.Verdict
-verdictOf Runs = runs
-verdictOf Retries = retries
-verdictOf Waits = waits
-verdictOf Stalls = stalls
 
 -- where a timeslice that may not run is put aside
 abbrev pub asideOf : Verdict → ℕ → Place
@@ -26,6 +17,13 @@ asideOf Runs end = On end
 asideOf Retries end = On end
 asideOf Waits end = On end
 asideOf Stalls end = Stalled
+
+-- what is released then: "those On the end are released", "Leaving Queue releases a timeslice's followers"
+abbrev pub freedBy : Verdict → ℕ → ℕ → Place
+freedBy Runs t end = Behind t
+freedBy Retries t end = On end
+freedBy Waits t end = Behind t
+freedBy Stalls t end = Behind t
 
 -- a machine from which a choice is made, after these links
 pub record Choosable (m : Machine) (links : ℕ) : Type 0 where

@@ -1,8 +1,4 @@
+-- What the stored machine shows, and what the choice and every event promise.
 pub mod Shown
-pub mod Sets
-pub mod Releasing
-pub mod Ranking
 pub mod Choosing
 pub mod Promise
-pub mod Turning
-pub mod Parts

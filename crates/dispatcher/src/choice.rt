@@ -1,62 +1,28 @@
 // Document 01, "Release and choice": the choice.
 ghost use mathlib.Core.Path.{_≡_};
-ghost use mathlib.Core.Bool.{cond};
 ghost use Prim.Native.Nat.{_+_, _≤_};
-ghost use Rattle.rules.specs.Walk.{atEnd, stalls};
-ghost use Rattle.dispatcher.specs.Choosing.{verdictOf, asideOf, Choosable, Chosen};
+ghost use Rattle.dispatcher.specs.Choosing.{asideOf, freedBy, Choosable, Chosen};
 use crate::Answered;
 use crate::Machine;
-use crate::numbers::index;
-use crate::order::Found;
-use crate::ranks::code;
-use crate::ranks::fill;
-use crate::ranks::park_codes;
-use crate::ranks::release_set;
-use crate::ranks::top_of;
-use crate::release::released;
-use crate::threads::donated;
-use crate::walk::walk;
 use rules::Hold;
 use rules::Place;
 use rules::Running;
 use rules::Timeslice;
-
-// What the end of a chain says of its timeslice.
-pub enum Verdict {
-    Runs,
-    Retries,
-    Waits,
-    Stalls,
-}
-
-pub fn at_end(hold: Hold, links: u8) -> Verdict
-    ensures { λ r. ⌜ verdictOf r ≡ atEnd hold links ⌝ }
-{
-    match hold {
-        Hold::Ready => Verdict::Runs,
-        Hold::Idle => {
-            if 0 < links {
-                return Verdict::Retries;
-            }
-            Verdict::Waits
-        }
-        Hold::Blocked => Verdict::Waits,
-        Hold::Calling(_) => Verdict::Waits,
-        Hold::Helping(_) => Verdict::Waits,
-    }
-}
-
-pub fn judged(looped: bool, hold: Hold, links: u8) -> Verdict
-    ensures { λ r. ⌜ verdictOf r ≡ cond looped stalls (atEnd hold links) ⌝ }
-{
-    if looped {
-        return Verdict::Stalls;
-    }
-    at_end(hold, links)
-}
+use tables::ends::Verdict;
+use tables::ends::judged;
+use tables::heights::code;
+use tables::heights::fill;
+use tables::heights::park_codes;
+use tables::heights::release_set;
+use tables::heights::top_of;
+use tables::numbers::index;
+use tables::order::Sought;
+use tables::release::released;
+use tables::threads::donated;
+use tables::walk::walk;
 
 // Where a timeslice that may not run is put aside.
-pub fn aside(verdict: Verdict, end: u8) -> Place
+pub(crate) fn aside(verdict: Verdict, end: u8) -> Place
     ensures { λ r. ⌜ r ≡ asideOf verdict end ⌝ }
 {
     match verdict {
@@ -67,7 +33,19 @@ pub fn aside(verdict: Verdict, end: u8) -> Place
     }
 }
 
-pub fn added(links: u16, more: u8) -> u16
+// What is released then: after a retry those On the end, and otherwise the followers of the timeslice that leaves Queue.
+pub(crate) fn freed_by(verdict: Verdict, t: u8, end: u8) -> Place
+    ensures { λ r. ⌜ r ≡ freedBy verdict t end ⌝ }
+{
+    match verdict {
+        Verdict::Runs => Place::Behind(t),
+        Verdict::Retries => Place::On(end),
+        Verdict::Waits => Place::Behind(t),
+        Verdict::Stalls => Place::Behind(t),
+    }
+}
+
+pub(crate) fn added(links: u16, more: u8) -> u16
     requires { ⌜ links ≤ 65000 ⌝ }
     ensures { λ r. ⌜ r ≡ links + more ⌝ }
 {
@@ -85,22 +63,22 @@ impl Machine {
         let mut followed = links;
         let mut looks = index(live) + 2;
         let mut codes = [0u16; Timeslice::LIMIT];
-        let mut ranks = [0u16; Timeslice::LIMIT];
+        let mut heights = [0u16; Timeslice::LIMIT];
         let timeslices = self.timeslices;
-        fill(&mut codes, &mut ranks, timeslices, order, live);
+        fill(&mut codes, &mut heights, timeslices, order, live);
         while 0 < looks {
             looks -= 1;
             // The code of Queue is 0.
-            let top = top_of(&codes, &ranks, &order, live, 0);
+            let top = top_of(&codes, &heights, &order, live, 0);
             match top {
-                Found::Nothing => {
+                Sought::Nothing => {
                     let machine = Machine {
                         running: Running::Nothing,
                         ..self
                     };
                     return machine.answered(0, followed);
                 }
-                Found::At(t) => {
+                Sought::At(t) => {
                     let k = index(t);
                     let mut owner: u8 = 0;
                     if k < 128 {
@@ -132,16 +110,6 @@ impl Machine {
                         Verdict::Retries => {
                             let next = donated(threads, helper, end);
                             self.threads = next;
-                            let waiters = Place::On(end);
-                            let first = release_set(&mut codes, &ranks, &order, live, waiters);
-                            match first {
-                                Found::Nothing => {}
-                                Found::At(q) => {
-                                    let timeslices = self.timeslices;
-                                    let free = released(timeslices, order, live, waiters, q);
-                                    self.timeslices = free;
-                                }
-                            }
                         }
                         Verdict::Waits | Verdict::Stalls => {
                             let place = aside(said, end);
@@ -152,17 +120,16 @@ impl Machine {
                                 let c = code(place);
                                 park_codes(&mut codes, &order, live, t, c);
                             }
-                            // Leaving Queue releases its followers.
-                            let followers = Place::Behind(t);
-                            let first = release_set(&mut codes, &ranks, &order, live, followers);
-                            match first {
-                                Found::Nothing => {}
-                                Found::At(q) => {
-                                    let timeslices = self.timeslices;
-                                    let free = released(timeslices, order, live, followers, q);
-                                    self.timeslices = free;
-                                }
-                            }
+                        }
+                    }
+                    let set = freed_by(said, t, end);
+                    let first = release_set(&mut codes, &heights, &order, live, set);
+                    match first {
+                        Sought::Nothing => {}
+                        Sought::At(q) => {
+                            let timeslices = self.timeslices;
+                            let free = released(timeslices, order, live, set, q);
+                            self.timeslices = free;
                         }
                     }
                 }

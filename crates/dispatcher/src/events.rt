@@ -1,4 +1,4 @@
-// Document 01, "Events": the eight events on a sound machine, in their modules, and here one door to all.
+// Document 01, "Events": the events on a sound machine, each in its module, and here the inner door to all.
 ghost use mathlib.Core.Path.{_≡_};
 ghost use mathlib.Core.Bool.{true};
 ghost use Rattle.rules.specs.Events.{dispatch};
@@ -8,14 +8,18 @@ use crate::Answered;
 use crate::Machine;
 use rules::Event;
 
-mod aborting;
-mod blocking;
-mod calling;
-mod charging;
-mod creating;
+mod abort;
+mod block;
+mod call;
+mod charge;
+mod create;
+mod give;
+mod reply;
+mod wake;
 
 impl Machine {
-    // Any of the eight.
+    // It does not test soundness, which costs far more than an event: a list is tested once, at its beginning, and stays sound from event to
+    // event. So it asks for a sound machine, and the checker refuses a caller that does not show it one.
     pub fn dispatch(self, e: Event) -> Answered
         requires { ⌜ soundMachine self ≡ true ⌝ }
         ensures { λ r. ⌜ Answers (dispatch e (shown self)) self r ⌝ }

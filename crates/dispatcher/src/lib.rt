@@ -1,20 +1,11 @@
 // The stored machine of the dispatcher. Which state of document 01 it shows is said in specs/Shown.antt.
 ghost use mathlib.Core.Path.{_≡_};
-ghost use Rattle.dispatcher.specs.Shown.{emptyMachine};
+ghost use Rattle.dispatcher.specs.Shown.{emptyMachine, soundMachine};
 
 mod choice;
+mod doors;
 mod events;
-mod methods;
-mod numbers;
-mod order;
-mod ranks;
-mod records;
-mod release;
 mod settle;
-mod sound;
-mod threads;
-mod turns;
-mod walk;
 
 use rules::Running;
 use rules::Thread;
@@ -53,6 +44,24 @@ impl Machine {
             live_timeslices: 0,
             running: Running::Nothing,
         }
+    }
+
+    // True counts, 0 in the free entries of the turn order, and the state shown is sound.
+    pub fn is_sound(self) -> bool
+        ensures { λ r. ⌜ r ≡ soundMachine self ⌝ }
+    {
+        let threads = self.threads;
+        let timeslices = self.timeslices;
+        let order = self.order;
+        let running = self.running;
+        soundness::is_sound(
+            threads,
+            timeslices,
+            order,
+            self.live_threads,
+            self.live_timeslices,
+            running,
+        )
     }
 
     // The answer with the machine as it is now.

@@ -5,12 +5,12 @@ ghost use Rattle.dispatcher.specs.Shown.{shown};
 ghost use Rattle.dispatcher.specs.Choosing.{Choosable, Settled, before};
 use crate::Answered;
 use crate::Machine;
-use crate::order::Found;
-use crate::order::stands_above;
-use crate::ranks::topmost;
-use crate::release::released;
 use rules::Place;
 use rules::Running;
+use tables::heights::topmost;
+use tables::order::Sought;
+use tables::order::stands_above;
+use tables::release::released;
 
 impl Machine {
     // A timeslice joined Queue: choice if nothing runs or it stands above the current.
@@ -47,8 +47,8 @@ impl Machine {
         let live = self.live_timeslices;
         let first = topmost(timeslices, order, live, Place::On(n));
         match first {
-            Found::Nothing => self.answered(0, 0),
-            Found::At(q) => {
+            Sought::Nothing => self.answered(0, 0),
+            Sought::At(q) => {
                 let free = released(timeslices, order, live, Place::On(n), q);
                 self.timeslices = free;
                 self.overtaken(q)

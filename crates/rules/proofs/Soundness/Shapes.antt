@@ -125,7 +125,7 @@ pub record Clauses (p : Plain) : Type 0 where
   pub idles : idlesGood p ≡ true
   pub free : freeSlots p ≡ true
 
-clauses : (p : Plain) → shaped p ≡ true → Clauses p
+pub clauses : (p : Plain) → shaped p ≡ true → Clauses p
 unfolding shaped
 clauses p e =
     let front = tablesFull p && turnsOnce p && ownersLive p && rangesHold p && callsServed p in
@@ -142,7 +142,7 @@ clauses p e =
       free = x .3;
     }
 
-from-clauses : (p : Plain) → Clauses p → shaped p ≡ true
+pub from-clauses : (p : Plain) → Clauses p → shaped p ≡ true
 unfolding shaped
 from-clauses p c = simp (c .tables, c .turns, c .owners, c .ranges, c .calls, c .links, c .idles, c .free)
 

@@ -10,11 +10,13 @@ use Rattle.rules.specs.Threads.{aborted}
 use Rattle.rules.specs.Sound.{isBlocked}
 use Rattle.rules.specs.Release.{onThread, stalled}
 use Rattle.rules.specs.Events.{releaseAbort}
-use Rattle.dispatcher.proofs.Tables.{held, held-none}
-use Rattle.dispatcher.proofs.Walks.{walk-links}
-use Rattle.dispatcher.proofs.Stored.{live-is, turns-fit, stored-with, live-aborted}
-use Rattle.dispatcher.proofs.Given.{movedTo, released-shown, aborts}
-use Rattle.dispatcher.proofs.Changes.{threads-shown}
+use Rattle.tables.proofs.Lookups.{held, held-none}
+use Rattle.rules.specs.Walk.{walk}
+use Rattle.tables.proofs.Walks.{walk-links, walks}
+use Rattle.tables.proofs.Lives.{live-aborted}
+use Rattle.dispatcher.proofs.Stored.{live-is, turns-fit, stored-with}
+use Rattle.dispatcher.proofs.TimesliceChanges.{movedTo, released-shown, aborts}
+use Rattle.dispatcher.proofs.ThreadChanges.{threads-shown}
 use borrow.Author.Needs.{needs}
 use Rattle.dispatcher.proofs.Machine.abort_walks.Statement.{statement}
 use Rattle.dispatcher.proofs.Machine.abort_walks.Tie as tie
@@ -30,16 +32,22 @@ ends c =
 counted : (c : tie.After-aborted) → c .before .before .before .before .before .args .t1 .«live_threads» ≡ liveThreads (c .aborted .result)
 counted c =
     let s = c .before .before .before .before .before in
-    live-is (s .args .t1) (s .pre .0 .exact) ∙ sym (live-aborted (s .args .n) (s .args .t1 .threads)) ∙ sym (ap liveThreads (c .aborted .ensures))
+    live-is (s .args .t1) (s .pre .exact) ∙ sym (live-aborted (s .args .n) (s .args .t1 .threads)) ∙ sym (ap liveThreads (c .aborted .ensures))
+
+walked : (c : tie.After-aborted) → let start = c .before .before .before .before .before in
+    c .before .before .before .walk .result ≡ walk (start .args .t1 .threads) (start .args .n)
+walked c =
+    let start = c .before .before .before .before .before in
+    walks (start .args .t1 .threads) _ _ _ (live-is (start .args .t1) (start .pre .exact)) (c .before .before .before .walk .ensures)
 
 few : (c : tie.After-aborted) → c .before .before .before .walk .result .links ≤ 128
 few c =
     let s = c .before .before .before .before .before in
     let full : length (s .args .t1 .threads) ≡ 128 = simp length-map at (s .good .0 .1 .1 .0 .1 .0 .1) in
-    rw (c .before .before .before .walk .ensures) (walk-links (s .args .t1 .threads) (s .args .n) full)
+    rw (walked c) (walk-links (s .args .t1 .threads) (s .args .n) full)
 
 walk-requires : tie.Need-walk-requires
-walk-requires c κs = let s = c .before in live-is (s .args .t1) (s .pre .0 .exact)
+walk-requires c κs = tt
 
 index-requires : tie.Need-index-requires
 index-requires c κs = tt
@@ -51,18 +59,18 @@ element-copy-out-z : tie.Need-element-copy-out-z
 element-copy-out-z c = search needs
 
 aborted-requires : tie.Need-aborted-requires
-aborted-requires c κs = c .before .before .before .before .pre .1
+aborted-requires c κs = tt
 
 wide-requires : tie.Need-wide-requires
 wide-requires c κs = tt
 
 release-requires : tie.Need-release-requires
-release-requires c κs = let s = c .before .before .before .before .before .before .before .before .before in turns-fit (s .args .t1) (s .pre .0 .exact)
+release-requires c κs = tt
 
 choose-requires : tie.Need-choose-requires
 choose-requires c κs =
     let s = c .before .before .before .before .before .before .before .before .before .before in
-    record { exact = stored-with (s .args .t1) (s .pre .0 .exact) _ refl refl (counted (c .before .before .before .before .before)); few = omega (arith, c .before .before .before .before .wide .ensures, few (c .before .before .before .before .before)) }
+    record { exact = stored-with (s .args .t1) (s .pre .exact) _ refl refl (counted (c .before .before .before .before .before)); few = omega (arith, c .before .before .before .before .wide .ensures, few (c .before .before .before .before .before)) }
 
 returns : tie.Need-returns
 returns c =
@@ -71,18 +79,18 @@ returns c =
     let chain = c .before .before .before .before .before .before .before .before .before .walk .result in
     let shows = released-shown m stalled _ (aborted (a .n) (m .threads)) (m .timeslices) _ _ _ _ (c .before .before .before .before .before .before .aborted .ensures) refl refl refl (c .before .release .ensures) in
     let how = ap (λ (b : Bool). releaseAbort b (isBlocked (holdAt (m .threads) (chain .end))) (chain .end) (withThreads (aborted (a .n) (m .threads)) (shown m))) (sym (c .before .before .if2 .taken)) in
-    aborts m (a .n) chain _ (movedTo (c .before .before .before .before .before .before .aborted .result) (c .before .release .result) (m .order) m) _ (c .before .before .before .before .before .before .before .before .before .walk .ensures) (c .before .before .before .before .before .wide .ensures) (shows ∙ how) (c .choose .ensures)
+    aborts m (a .n) chain _ (movedTo (c .before .before .before .before .before .before .aborted .result) (c .before .release .result) (m .order) m) _ (walked (c .before .before .before .before .before .before)) (c .before .before .before .before .before .wide .ensures) (shows ∙ how) (c .choose .ensures)
 
 is-blocked-requires : tie.Need-is-blocked-requires
 is-blocked-requires c κs = tt
 
 release-requires-2 : tie.Need-release-requires-2
-release-requires-2 c κs = let s = c .before .before .before .before .before .before .before .before .before .before .before in turns-fit (s .args .t1) (s .pre .0 .exact)
+release-requires-2 c κs = tt
 
 choose-requires-2 : tie.Need-choose-requires-2
 choose-requires-2 c κs =
     let s = c .before .before .before .before .before .before .before .before .before .before .before .before in
-    record { exact = stored-with (s .args .t1) (s .pre .0 .exact) _ refl refl (counted (c .before .before .before .before .before .before .before)); few = omega (arith, c .before .before .before .before .before .before .wide .ensures, few (c .before .before .before .before .before .before .before)) }
+    record { exact = stored-with (s .args .t1) (s .pre .exact) _ refl refl (counted (c .before .before .before .before .before .before .before)); few = omega (arith, c .before .before .before .before .before .before .wide .ensures, few (c .before .before .before .before .before .before .before)) }
 
 returns-2 : tie.Need-returns-2
 returns-2 c =
@@ -92,12 +100,12 @@ returns-2 c =
     let blocked : isBlocked (holdAt (m .threads) (chain .end)) ≡ true = sym (ap isBlocked (ends (c .before .before .before .before .before .before .before .before))) ∙ sym (c .before .before .before .is-blocked .ensures) ∙ c .before .before .if3 .taken in
     let shows = released-shown m (onThread (chain .end)) _ (aborted (a .n) (m .threads)) (m .timeslices) _ _ _ _ (c .before .before .before .before .before .before .before .before .aborted .ensures) refl refl refl (c .before .release2 .ensures) in
     let how = ap₂ (λ (l b : Bool). releaseAbort l b (chain .end) (withThreads (aborted (a .n) (m .threads)) (shown m))) (sym (c .before .before .before .before .if2 .left)) (sym blocked) in
-    aborts m (a .n) chain _ (movedTo (c .before .before .before .before .before .before .before .before .aborted .result) (c .before .release2 .result) (m .order) m) _ (c .before .before .before .before .before .before .before .before .before .before .before .walk .ensures) (c .before .before .before .before .before .before .before .wide .ensures) (shows ∙ how) (c .choose2 .ensures)
+    aborts m (a .n) chain _ (movedTo (c .before .before .before .before .before .before .before .before .aborted .result) (c .before .release2 .result) (m .order) m) _ (walked (c .before .before .before .before .before .before .before .before)) (c .before .before .before .before .before .before .before .wide .ensures) (shows ∙ how) (c .choose2 .ensures)
 
 choose-requires-3 : tie.Need-choose-requires-3
 choose-requires-3 c κs =
     let s = c .before .before .before .before .before .before .before .before .before .before .before in
-    record { exact = stored-with (s .args .t1) (s .pre .0 .exact) _ refl refl (counted (c .before .before .before .before .before .before)); few = omega (arith, c .before .before .before .before .before .wide .ensures, few (c .before .before .before .before .before .before)) }
+    record { exact = stored-with (s .args .t1) (s .pre .exact) _ refl refl (counted (c .before .before .before .before .before .before)); few = omega (arith, c .before .before .before .before .before .wide .ensures, few (c .before .before .before .before .before .before)) }
 
 returns-3 : tie.Need-returns-3
 returns-3 c =
@@ -107,7 +115,7 @@ returns-3 c =
     let open-end : isBlocked (holdAt (m .threads) (chain .end)) ≡ false = sym (ap isBlocked (ends (c .before .before .before .before .before .before .before))) ∙ sym (c .before .before .is-blocked .ensures) ∙ c .before .if3 .left in
     let shows = threads-shown m _ (aborted (a .n) (m .threads)) (c .before .before .before .before .before .before .before .aborted .ensures) in
     let how = ap₂ (λ (l b : Bool). releaseAbort l b (chain .end) (withThreads (aborted (a .n) (m .threads)) (shown m))) (sym (c .before .before .before .if2 .left)) (sym open-end) in
-    aborts m (a .n) chain _ (movedTo (c .before .before .before .before .before .before .before .aborted .result) (m .timeslices) (m .order) m) _ (c .before .before .before .before .before .before .before .before .before .before .walk .ensures) (c .before .before .before .before .before .before .wide .ensures) (shows ∙ how) (c .choose3 .ensures)
+    aborts m (a .n) chain _ (movedTo (c .before .before .before .before .before .before .before .aborted .result) (m .timeslices) (m .order) m) _ (walked (c .before .before .before .before .before .before .before)) (c .before .before .before .before .before .before .wide .ensures) (shows ∙ how) (c .choose3 .ensures)
 
 pub abort-walks-spec : {M : Type 1} → statement M
 abort-walks-spec = tie.close (tie.spec walk-requires index-requires mul-z element-copy-out-z aborted-requires wide-requires release-requires choose-requires returns is-blocked-requires release-requires-2 choose-requires-2 returns-2 choose-requires-3 returns-3)

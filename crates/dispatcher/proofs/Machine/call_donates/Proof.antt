@@ -1,8 +1,8 @@
 use native.Mathlib.Omega.{arith}
 use Rattle.rules.specs.Events.{callDonates, releases}
 use Rattle.dispatcher.proofs.Answering.{said-of}
-use Rattle.dispatcher.proofs.Stored.{live-donate}
-use Rattle.dispatcher.proofs.Changes.{choosable, runningTo, running-shown, running-exact}
+use Rattle.tables.proofs.Lives.{live-donate}
+use Rattle.dispatcher.proofs.ThreadChanges.{choosable, runningTo, running-shown, running-exact}
 use borrow.Author.Needs.{needs}
 use Rattle.dispatcher.proofs.Machine.call_donates.Statement.{statement}
 use Rattle.dispatcher.proofs.Machine.call_donates.Tie as tie

@@ -1,7 +1,7 @@
 use Rattle.rules.specs.Events.{callHelps}
 use Rattle.dispatcher.proofs.Answering.{chosen}
-use Rattle.dispatcher.proofs.Stored.{live-hold}
-use Rattle.dispatcher.proofs.Changes.{choosable, threadsTo, threads-shown, threads-exact}
+use Rattle.tables.proofs.Lives.{live-hold}
+use Rattle.dispatcher.proofs.ThreadChanges.{choosable, threadsTo, threads-shown, threads-exact}
 use borrow.Author.Needs.{needs}
 use Rattle.dispatcher.proofs.Machine.call_helps.Statement.{statement}
 use Rattle.dispatcher.proofs.Machine.call_helps.Tie as tie

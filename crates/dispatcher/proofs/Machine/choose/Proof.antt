@@ -1,55 +1,91 @@
+-- Each look runs its timeslice or hands a machine to the next look, with which the rest of the choice is the whole.
+use Prim.Native.Nat.{_-_}
 use Prim.Native.Nat.{ℕ, _+_}
-use mathlib.Core.Path.{_≡_, refl, ap}
+use mathlib.Core.Path.{_≡_, refl, ap, _∙_}
 use mathlib.Core.Logic.{⊎-elim}
-use native.Mathlib.Omega.{arith}
-use borrow.Author.Needs.{needs}
 use lib.ListN.{length-map}
-use Rattle.rules.specs.declared.Place.the-variants.{Behind, On}
-use Rattle.dispatcher.specs.declared.choice.Verdict.{Verdict as Said}
-use Rattle.dispatcher.specs.declared.choice.Verdict.the-variants.{Runs, Retries}
-use Rattle.dispatcher.specs.Choosing.{verdictOf}
-use Rattle.dispatcher.proofs.Tables.{owns, owns-none, held, held-none}
-use Rattle.dispatcher.proofs.Stored.{turns-fit}
-use Rattle.dispatcher.proofs.Recodings.{freed-none, freed-some}
-use Rattle.dispatcher.proofs.Choices.{Choosing, begin, lives-are, tops-queue, out, Look, looked, runs-none, runs-at, parks-at, retries-at, stateOf, Aside, put-aside, none-aside}
+use Rattle.rules.specs.declared.Place.{Place}
+use Rattle.rules.specs.declared.Place.the-variants.{Queue}
+use Rattle.tables.specs.declared.ends.Verdict.{Verdict as Said}
+use Rattle.tables.specs.declared.ends.Verdict.the-variants.{Runs}
+use Rattle.tables.specs.Verdicts.{verdictOf}
+use Rattle.tables.specs.Sets.{setOf}
+use Rattle.tables.proofs.Lookups.{owns, owns-none, held, held-none}
+use Rattle.tables.proofs.Walks.{walks}
+use Rattle.tables.proofs.Searches.{coded-by}
+use Rattle.tables.proofs.Recodings.{freed-none, freed-some}
+use Rattle.dispatcher.proofs.ChoiceLoop.{Choosing, begin, lives-are, tops-queue, out, Look, looked, runs-none, runs-at, goes-on, stateOf}
+use Rattle.dispatcher.proofs.ChoiceLoop.{put-aside, none-aside, none-queued, Unreleased, unreleased-retry, unreleased-aside}
+use borrow.Author.Needs.{needs}
+use native.Mathlib.Omega.{arith}
 use Rattle.dispatcher.proofs.Machine.choose.Statement.{statement}
 use Rattle.dispatcher.proofs.Machine.choose.Tie as tie
 
 abbrev Inv-loop : tie.InvT-loop
-Inv-loop links self₀ live live-threads order followed₀ looks₀ codes₀ ranks self followed looks codes = Choosing self₀ links live live-threads order self followed looks codes ranks
+Inv-loop links self₀ live live-threads order followed₀ looks₀ codes₀ heights self followed looks codes = Choosing self₀ links live live-threads order self followed looks codes heights
 
 abbrev μ-loop : tie.MeasureT-loop
-μ-loop links self₀ live live-threads order followed₀ looks₀ codes₀ ranks self followed looks codes = looks
+μ-loop links self₀ live live-threads order followed₀ looks₀ codes₀ heights self followed looks codes = looks
 
--- what the look has found where its verdict is given
+-- the topmost timeslice in Queue, its chain, and the verdict of its end
 look : (c : tie.After-judged Inv-loop μ-loop) (v : Said) → c .judged .result ≡ v
-    → Look (stateOf (c .before .before .before .before .before .before .before .before .before .before .before .before .before .before .before .before .loop .self) (c .before .before .before .before .before .before .before .before .before .before .before .before .before .before .before .before .before .before .before .before .before .before .before .args .t1 .«live_timeslices») (c .before .before .before .before .before .before .before .before .before .before .before .before .before .before .before .before .before .before .before .before .before .before .before .args .t1 .order)) (c .before .before .before .before .before .before .before .before .before .top .given .0 .0) (c .before .before .before .before .walk .result) (verdictOf v)
+    → let walked = c .before .before .before .before in
+    let told = walked .before .before .before .before .before in
+    let turn = told .before .before .before .before .before .before .before in
+    let start = turn .before .before .before .before .before .before .before in
+    Look (stateOf (turn .loop .self) (start .args .t1 .«live_timeslices») (start .args .t1 .order)) (told .top .given .0 .0) (walked .walk .result) (verdictOf v)
 look c v is =
-    let m = c .before .before .before .before .before .before .before .before .before .before .before .before .before .before .before .before .loop .self in
-    let w = c .before .before .before .before .before .before .before .before .before .before .before .before .before .before .before .before .loop .inv in
-    let top = c .before .before .before .before .before .before .before .before .before .before .before .top-of in
-    let index2 = c .before .before .before .before .before .before .before .index2 .ensures in
-    let index3 = c .before .before .index3 .ensures in
-    looked _ (top .result) _ _ _ _ _ v (tops-queue _ _ _ _ _ _ _ _ _ _ w (top .result) (top .ensures)) (c .before .before .before .before .before .before .before .before .before .top .given .1)
-    (⊎-elim (λ o. owns (m .timeslices) _ _ _ index2 (o .2)) (λ o. owns-none (m .timeslices) _ _ _ (w .timeslices) index2 (o .0 .left) (o .1)) (c .before .before .before .before .before .before .if1 .came))
-    (c .before .before .before .before .walk .ensures)
-    (⊎-elim (λ o. held (m .threads) _ _ _ index3 (o .2)) (λ o. held-none (m .threads) _ _ _ (w .threads) index3 (o .0 .left) (o .1)) (c .before .if2 .came))
+    let held-at = c .before in
+    let walked = held-at .before .before .before in
+    let owner = walked .before .before in
+    let told = owner .before .before .before in
+    let sought = told .before .before in
+    let turn = sought .before .before .before .before .before in
+    let m = turn .loop .self in
+    let w = turn .loop .inv in
+    let top = sought .top-of in
+    let indexed = owner .before .index2 .ensures in
+    let ended = held-at .before .index3 .ensures in
+    looked _ (top .result) _ _ _ _ _ v (tops-queue _ _ _ _ _ _ _ _ _ _ w (top .result) (top .ensures)) (told .top .given .1)
+    (⊎-elim (λ o. owns (m .timeslices) _ _ _ indexed (o .2)) (λ o. owns-none (m .timeslices) _ _ _ (w .timeslices) indexed (o .0 .left) (o .1))
+    (owner .if1 .came))
+    (walks (m .threads) _ _ _ (lives-are _ _ _ _ _ _ _ _ _ _ w) (walked .walk .ensures))
+    (⊎-elim (λ o. held (m .threads) _ _ _ ended (o .2)) (λ o. held-none (m .threads) _ _ _ (w .threads) ended (o .0 .left) (o .1))
+    (held-at .if2 .came))
     (c .judged .ensures)
     is
 
--- the machine with the look's timeslice put aside
-aside-at : (c : tie.Joined3 Inv-loop μ-loop)
-    → Aside (c .before .before .before .before .before .before .before .before .before .before .before .before .before .before .before .before .before .before .before .loop .self) (c .before .before .before .before .before .before .before .before .before .before .before .before .before .before .before .before .before .before .before .before .before .before .before .before .before .before .args .t1 .«live_timeslices») (c .before .before .before .before .before .before .before .before .before .before .before .before .before .before .before .before .before .before .before .before .before .before .before .before .before .before .args .t1 .order) (c .before .before .before .before .before .before .before .before .before .before .before .before .top .given .0 .0) (c .before .aside .result) (c .if3 .self) (c .if3 .codes) (c .before .before .before .before .before .before .before .before .before .before .before .before .before .before .before .before .before .before .before .before .fill .last .1 .0)
-aside-at c =
-    let m = c .before .before .before .before .before .before .before .before .before .before .before .before .before .before .before .before .before .before .before .loop .self in
-    let w = c .before .before .before .before .before .before .before .before .before .before .before .before .before .before .before .before .before .before .before .loop .inv in
-    let s = c .before .before .before .before .before .before .before .before .before .before .before .before .before .before .before .before .before .before .before .before .before .before .before .before .before .before .args .t1 in
-    let index2 = c .before .before .before .before .before .before .before .before .before .before .index2 .ensures in
-    let p = c .before .aside .result in
+-- the machine before the release: the retry is made, or the timeslice is put aside
+unreleased : (c : tie.At-match2-came Inv-loop μ-loop)
+    → let judged = c .before in
+    let walked = judged .before .before .before .before in
+    let told = walked .before .before .before .before .before in
+    let turn = told .before .before .before .before .before .before .before in
+    let filled = turn .before in
+    let start = filled .before .before .before .before .before .before in
+    Unreleased (turn .loop .self) (start .args .t1 .«live_timeslices») (start .args .t1 .order) (told .top .given .0 .0) (walked .walk .result)
+    (judged .judged .result) (c .match2 .self) (c .match2 .codes) (filled .fill .last .1 .0)
+unreleased c =
+    let judged = c .before in
+    let walked = judged .before .before .before .before in
+    let indexed = walked .before .before .before .index2 .ensures in
+    let told = walked .before .before .before .before .before in
+    let turn = told .before .before .before .before .before .before .before in
+    let start = turn .before .before .before .before .before .before .before in
+    let m = turn .loop .self in
+    let w = turn .loop .inv in
+    let live = start .args .t1 .«live_timeslices» in
+    let order = start .args .t1 .order in
+    let n = c .match2 .self in
+    let said = judged .judged .result in
     ⊎-elim
-    (λ o. put-aside m (s .«live_timeslices») (s .order) _ _ (w .ranked) (w .timeslices) _ _ index2 p (c .if3 .self) (c .if3 .codes) (o .0 .taken) (o .6) _ (o .2 .ensures) _ (o .7) (o .5 .ensures))
-    (λ o. none-aside m (s .«live_timeslices») (s .order) _ _ (w .ranked) (w .timeslices) _ _ index2 p (c .if3 .self) (c .if3 .codes) (o .0 .left) (o .1) (o .2))
-    (c .if3 .came)
+    (λ o. unreleased-retry m live order _ _ (w .coded) _ _ said n (c .match2 .codes) (o .1 .given .1) _ (o .2 .ensures) (o .3) (o .4))
+    (⊎-elim
+    (λ o. unreleased-aside m live order _ _ (w .coded) _ _ said n (c .match2 .codes) (o .0 .keys3) (o .1 .result) (o .1 .ensures)
+    (put-aside m live order _ _ (w .coded) (w .timeslices) _ _ indexed (o .1 .result) n (c .match2 .codes) (o .2 .taken) (o .8) _ (o .4 .ensures) _ (o .9) (o .7 .ensures)))
+    (λ o. unreleased-aside m live order _ _ (w .coded) _ _ said n (c .match2 .codes) (o .0 .keys3) (o .1 .result) (o .1 .ensures)
+    (none-aside m live order _ _ (w .coded) (w .timeslices) _ _ indexed (o .1 .result) n (c .match2 .codes) (o .2 .left) (o .3) (o .4))))
+    (c .match2 .came)
 
 index-requires : tie.Need-index-requires Inv-loop μ-loop
 index-requires c κs = tt
@@ -58,25 +94,38 @@ add-looks : tie.Need-add-looks Inv-loop μ-loop
 add-looks c = search needs
 
 fill-requires : tie.Need-fill-requires Inv-loop μ-loop
-fill-requires c κs = (turns-fit _ (c .before .before .before .before .before .pre .exact), (refl, refl))
+fill-requires c κs = tt
 
 loop-holds : tie.Need-loop-holds Inv-loop μ-loop
 loop-holds c =
-    let s = c .before .before .before .before .before .before in
-    let owns = s .good .0 .1 .1 in
-    begin _ _ _ _ _ (s .pre) (simp length-map at (owns .1 .1 .0 .1 .0 .1)) (simp length-map at (owns .0 .1 .0 .1)) (simp length-map at (owns .1 .0 .1 .0 .1)) (ap (λ (k : ℕ). k + 2) (c .before .before .before .before .index .ensures)) (c .fill .ensures)
+    let filled = c .before in
+    let start = filled .before .before .before .before .before in
+    let owns = start .good .0 .1 .1 in
+    let m = start .args .t1 in
+    let codes = coded-by (m .timeslices) (m .order) (m .«live_timeslices») _ _ _ _ refl refl (c .fill .ensures .0) (c .fill .ensures .1) in
+    begin _ _ _ _ _ (start .pre) (simp length-map at (owns .1 .1 .0 .1 .0 .1)) (simp length-map at (owns .0 .1 .0 .1)) (simp length-map at (owns .1 .0 .1 .0 .1))
+    (ap (λ (k : ℕ). k + 2) (filled .before .before .before .index .ensures)) codes
 
 sub-looks : tie.Need-sub-looks Inv-loop μ-loop
 sub-looks c = omega arith
 
 top-of-requires : tie.Need-top-of-requires Inv-loop μ-loop
-top-of-requires c κs = c .before .before .before .before .loop .inv .fits
+top-of-requires c κs = tt
 
 enum-told : tie.Need-enum-told Inv-loop μ-loop
 enum-told c = search needs
 
+answered-requires : tie.Need-answered-requires Inv-loop μ-loop
+answered-requires c κs = tt
+
 returns : tie.Need-returns Inv-loop μ-loop
-returns c = rw (c .answered .ensures) (runs-none _ _ _ _ _ _ _ _ _ _ (c .before .before .before .before .before .before .before .before .before .before .before .loop .inv) (c .before .before .before .before .before .before .top-of .result) (c .before .before .before .before .before .before .before .before .before .before .loop-test .taken) (tops-queue _ _ _ _ _ _ _ _ _ _ (c .before .before .before .before .before .before .before .before .before .before .before .loop .inv) (c .before .before .before .before .before .before .top-of .result) (c .before .before .before .before .before .before .top-of .ensures)) (c .before .before .before .before .enum-told .given .1))
+returns c =
+    let told = c .before .before .before .before in
+    let sought = told .before .before .top-of in
+    let tested = told .before .before .before .before .before .before in
+    let w = tested .before .loop .inv in
+    let top = tops-queue _ _ _ _ _ _ _ _ _ _ w (sought .result) (sought .ensures) in
+    rw (c .answered .ensures) (runs-none _ _ _ _ _ _ _ _ _ _ w (sought .result) (tested .loop-test .taken) top (told .enum-told .given .1))
 
 enum-known-top : tie.Need-enum-known-top Inv-loop μ-loop
 enum-known-top c = search needs
@@ -91,10 +140,10 @@ element-copy-out-x : tie.Need-element-copy-out-x Inv-loop μ-loop
 element-copy-out-x c = search needs
 
 walk-requires : tie.Need-walk-requires Inv-loop μ-loop
-walk-requires c κs = lives-are _ _ _ _ _ _ _ _ _ _ (c .before .before .before .before .before .before .before .before .before .before .before .loop .inv)
+walk-requires c κs = tt
 
 added-requires : tie.Need-added-requires Inv-loop μ-loop
-added-requires c κs = omega (arith, c .before .before .before .before .before .before .before .before .before .before .before .before .loop .inv .few)
+added-requires c κs = let turn = c .before .before .before .before .before .before .before .before .before .before .before .before in omega (arith, turn .loop .inv .few)
 
 index-requires-3 : tie.Need-index-requires-3 Inv-loop μ-loop
 index-requires-3 c κs = tt
@@ -111,50 +160,23 @@ judged-requires c κs = tt
 enum-told-2 : tie.Need-enum-told-2 Inv-loop μ-loop
 enum-told-2 c = search needs
 
+answered-requires-2 : tie.Need-answered-requires-2 Inv-loop μ-loop
+answered-requires-2 c κs = tt
+
 returns-2 : tie.Need-returns-2 Inv-loop μ-loop
-returns-2 c = rw (c .answered2 .ensures) (runs-at _ _ _ _ _ _ _ _ _ _ (c .before .before .before .before .before .before .before .before .before .before .before .before .before .before .before .before .before .before .before .before .before .before .loop .inv) _ _ _ (c .before .before .before .before .before .before .before .before .before .before .before .before .before .before .before .before .before .before .before .before .before .loop-test .taken) (c .before .before .before .before .before .before .before .before .before .added .ensures) (look (c .before .before .before .before .before .before) Runs (c .before .before .before .before .enum-told2 .given .1)))
+returns-2 c =
+    let told = c .before .before .before .before in
+    let judged = told .before .before in
+    let added = judged .before .before .before in
+    let tested = added .before .before .before .before .before .before .before .before .before .before .before .before in
+    rw (c .answered2 .ensures)
+    (runs-at _ _ _ _ _ _ _ _ _ _ (tested .before .loop .inv) _ _ _ (tested .loop-test .taken) (added .added .ensures) (look judged Runs (told .enum-told2 .given .1)))
 
 enum-told-3 : tie.Need-enum-told-3 Inv-loop μ-loop
 enum-told-3 c = search needs
 
 donated-requires : tie.Need-donated-requires Inv-loop μ-loop
 donated-requires c κs = tt
-
-release-set-requires : tie.Need-release-set-requires Inv-loop μ-loop
-release-set-requires c κs = (c .before .before .before .before .before .before .before .before .before .before .before .before .before .before .before .before .before .before .before .before .before .before .loop .inv .fits, c .before .before .before .before .before .before .before .before .before .before .before .before .before .before .before .before .before .before .before .before .before .before .loop .inv .ranked .full)
-
-enum-told-4 : tie.Need-enum-told-4 Inv-loop μ-loop
-enum-told-4 c = search needs
-
-loop-less : tie.Need-loop-less Inv-loop μ-loop
-loop-less c = omega (arith, c .before .before .before .before .before .before .before .before .before .before .before .before .before .before .before .before .before .before .before .before .before .before .before .before .loop-test .taken)
-
-loop-again : tie.Need-loop-again Inv-loop μ-loop
-loop-again c =
-    let m = c .before .before .before .before .before .before .before .before .before .before .before .before .before .before .before .before .before .before .before .before .before .before .before .before .before .loop .self in
-    let w = c .before .before .before .before .before .before .before .before .before .before .before .before .before .before .before .before .before .before .before .before .before .before .before .before .before .loop .inv in
-    let s = c .before .before .before .before .before .before .before .before .before .before .before .before .before .before .before .before .before .before .before .before .before .before .before .before .before .before .before .before .before .before .before .before .args .t1 in
-    let first = c .before .before .release-set in
-    retries-at _ _ _ _ _ _ _ _ _ _ w _ _ _ _ _ _ (c .before .before .before .before .before .before .before .before .before .before .before .before .before .before .before .before .before .before .before .before .before .before .before .before .loop-test .taken) (c .before .before .before .before .before .before .before .before .before .before .before .before .added .ensures) (look (c .before .before .before .before .before .before .before .before .before) Retries (c .before .before .before .before .before .before .before .enum-told3 .given .1)) (c .before .before .before .before .before .before .donated .ensures)
-    (freed-none (m .timeslices) (s .order) (s .«live_timeslices») _ _ _ (On _) (first .result) (w .entries) (w .fits) (w .ranked) (first .ensures .0) (first .ensures .1) (c .enum-told4 .given .1))
-
-enum-known-first : tie.Need-enum-known-first Inv-loop μ-loop
-enum-known-first c = search needs
-
-released-requires : tie.Need-released-requires Inv-loop μ-loop
-released-requires c κs = c .before .before .before .before .before .before .before .before .before .before .before .before .before .before .before .before .before .before .before .before .before .before .before .before .before .before .before .loop .inv .fits
-
-loop-less-2 : tie.Need-loop-less-2 Inv-loop μ-loop
-loop-less-2 c = omega (arith, c .before .before .before .before .before .before .before .before .before .before .before .before .before .before .before .before .before .before .before .before .before .before .before .before .before .before .before .loop-test .taken)
-
-loop-again-2 : tie.Need-loop-again-2 Inv-loop μ-loop
-loop-again-2 c =
-    let m = c .before .before .before .before .before .before .before .before .before .before .before .before .before .before .before .before .before .before .before .before .before .before .before .before .before .before .before .before .loop .self in
-    let w = c .before .before .before .before .before .before .before .before .before .before .before .before .before .before .before .before .before .before .before .before .before .before .before .before .before .before .before .before .loop .inv in
-    let s = c .before .before .before .before .before .before .before .before .before .before .before .before .before .before .before .before .before .before .before .before .before .before .before .before .before .before .before .before .before .before .before .before .before .before .before .args .t1 in
-    let first = c .before .before .before .before .before .release-set in
-    retries-at _ _ _ _ _ _ _ _ _ _ w _ _ _ _ _ _ (c .before .before .before .before .before .before .before .before .before .before .before .before .before .before .before .before .before .before .before .before .before .before .before .before .before .before .before .loop-test .taken) (c .before .before .before .before .before .before .before .before .before .before .before .before .before .before .before .added .ensures) (look (c .before .before .before .before .before .before .before .before .before .before .before .before) Retries (c .before .before .before .before .before .before .before .before .before .before .enum-told3 .given .1)) (c .before .before .before .before .before .before .before .before .before .donated .ensures)
-    (freed-some (m .timeslices) (s .order) (s .«live_timeslices») _ _ _ (On _) (first .result) (w .entries) (w .fits) (w .ranked) (first .ensures .0) (first .ensures .1) _ _ refl (c .before .before .before .first .given .1) (c .released .ensures))
 
 aside-requires : tie.Need-aside-requires Inv-loop μ-loop
 aside-requires c κs = tt
@@ -175,45 +197,68 @@ code-requires : tie.Need-code-requires Inv-loop μ-loop
 code-requires c κs = tt
 
 park-codes-requires : tie.Need-park-codes-requires Inv-loop μ-loop
-park-codes-requires c κs = (c .before .before .before .before .before .before .before .before .before .before .before .before .before .before .before .before .before .before .before .before .before .before .before .loop .inv .fits, c .before .before .before .before .before .before .before .before .before .before .before .before .before .before .before .before .before .before .before .before .before .before .before .loop .inv .ranked .full)
+park-codes-requires c κs = tt
 
-release-set-requires-2 : tie.Need-release-set-requires-2 Inv-loop μ-loop
-release-set-requires-2 c κs = (c .before .before .before .before .before .before .before .before .before .before .before .before .before .before .before .before .before .before .before .before .before .before .loop .inv .fits, aside-at (c .before .before .before) .ranked .full)
+freed-by-requires : tie.Need-freed-by-requires Inv-loop μ-loop
+freed-by-requires c κs = tt
 
-enum-told-5 : tie.Need-enum-told-5 Inv-loop μ-loop
-enum-told-5 c = search needs
+release-set-requires : tie.Need-release-set-requires Inv-loop μ-loop
+release-set-requires c κs = tt
 
-loop-less-3 : tie.Need-loop-less-3 Inv-loop μ-loop
-loop-less-3 c = omega (arith, c .before .before .before .before .before .before .before .before .before .before .before .before .before .before .before .before .before .before .before .before .before .before .before .before .loop-test .taken)
+enum-told-4 : tie.Need-enum-told-4 Inv-loop μ-loop
+enum-told-4 c = search needs
 
-loop-again-3 : tie.Need-loop-again-3 Inv-loop μ-loop
-loop-again-3 c =
-    let w = c .before .before .before .before .before .before .before .before .before .before .before .before .before .before .before .before .before .before .before .before .before .before .before .before .before .loop .inv in
-    let s = c .before .before .before .before .before .before .before .before .before .before .before .before .before .before .before .before .before .before .before .before .before .before .before .before .before .before .before .before .before .before .before .before .args .t1 in
-    let a = aside-at (c .before .before .before .before .before .before) in
-    let n = c .before .before .before .before .before .before .if3 .self in
-    let first = c .before .before .release-set2 in
-    parks-at _ _ _ _ _ _ _ _ _ _ w _ _ _ (c .before .before .before .before .before .before .before .before .before .judged .result) (c .before .before .before .before .before .before .before .aside .result) n _ _ _ (c .before .before .before .before .before .before .before .before .before .before .before .before .before .before .before .before .before .before .before .before .before .before .before .before .loop-test .taken) (c .before .before .before .before .before .before .before .before .before .before .before .before .added .ensures) (look (c .before .before .before .before .before .before .before .before .before) (c .before .before .before .before .before .before .before .before .before .judged .result) refl) (c .before .before .before .before .before .before .before .before .match2 .keys3) (c .before .before .before .before .before .before .before .aside .ensures) a
-    (freed-none (n .timeslices) (s .order) (s .«live_timeslices») _ _ _ (Behind _) (first .result) (w .entries) (w .fits) (a .ranked) (first .ensures .0) (first .ensures .1) (c .enum-told5 .given .1))
+loop-less : tie.Need-loop-less Inv-loop μ-loop
+loop-less c = let tested = c .before .before .before .before .before .before .before .before .before .before .before .before .before .before .before .before .before .before .before .before .before .before .before in omega (arith, tested .loop-test .taken)
 
-enum-known-first-2 : tie.Need-enum-known-first-2 Inv-loop μ-loop
-enum-known-first-2 c = search needs
+loop-again : tie.Need-loop-again Inv-loop μ-loop
+loop-again c =
+    let set-free = c .before .before in
+    let chosen = set-free .before .before .before .before in
+    let done = chosen .before in
+    let judged = done .before in
+    let added = judged .before .before .before in
+    let tested = added .before .before .before .before .before .before .before .before .before .before .before .before in
+    let w = tested .before .loop .inv in
+    let before-it = unreleased done in
+    let n = done .match2 .self in
+    let said = judged .judged .result in
+    let free = freed-none (n .timeslices) _ _ _ _ _ (chosen .freed-by .result) (set-free .release-set .result) (w .entries) (before-it .coded)
+    (set-free .release-set .ensures .0) (set-free .release-set .ensures .1) (c .enum-told4 .given .1) in
+    goes-on _ _ _ _ _ _ _ _ _ _ w _ _ _ said n _ _ (n .timeslices) (tested .loop-test .taken) (added .added .ensures) (look judged said refl) before-it
+    (rw (chosen .freed-by .ensures) at free)
 
-released-requires-2 : tie.Need-released-requires-2 Inv-loop μ-loop
-released-requires-2 c κs = c .before .before .before .before .before .before .before .before .before .before .before .before .before .before .before .before .before .before .before .before .before .before .before .before .before .before .before .loop .inv .fits
+enum-known-first : tie.Need-enum-known-first Inv-loop μ-loop
+enum-known-first c = search needs
 
-loop-less-4 : tie.Need-loop-less-4 Inv-loop μ-loop
-loop-less-4 c = omega (arith, c .before .before .before .before .before .before .before .before .before .before .before .before .before .before .before .before .before .before .before .before .before .before .before .before .before .before .before .loop-test .taken)
+released-requires : tie.Need-released-requires Inv-loop μ-loop
+released-requires c κs = tt
 
-loop-again-4 : tie.Need-loop-again-4 Inv-loop μ-loop
-loop-again-4 c =
-    let w = c .before .before .before .before .before .before .before .before .before .before .before .before .before .before .before .before .before .before .before .before .before .before .before .before .before .before .before .before .loop .inv in
-    let s = c .before .before .before .before .before .before .before .before .before .before .before .before .before .before .before .before .before .before .before .before .before .before .before .before .before .before .before .before .before .before .before .before .before .before .before .args .t1 in
-    let a = aside-at (c .before .before .before .before .before .before .before .before .before) in
-    let n = c .before .before .before .before .before .before .before .before .before .if3 .self in
-    let first = c .before .before .before .before .before .release-set2 in
-    parks-at _ _ _ _ _ _ _ _ _ _ w _ _ _ (c .before .before .before .before .before .before .before .before .before .before .before .before .judged .result) (c .before .before .before .before .before .before .before .before .before .before .aside .result) n _ _ _ (c .before .before .before .before .before .before .before .before .before .before .before .before .before .before .before .before .before .before .before .before .before .before .before .before .before .before .before .loop-test .taken) (c .before .before .before .before .before .before .before .before .before .before .before .before .before .before .before .added .ensures) (look (c .before .before .before .before .before .before .before .before .before .before .before .before) (c .before .before .before .before .before .before .before .before .before .before .before .before .judged .result) refl) (c .before .before .before .before .before .before .before .before .before .before .before .match2 .keys3) (c .before .before .before .before .before .before .before .before .before .before .aside .ensures) a
-    (freed-some (n .timeslices) (s .order) (s .«live_timeslices») _ _ _ (Behind _) (first .result) (w .entries) (w .fits) (a .ranked) (first .ensures .0) (first .ensures .1) _ _ refl (c .before .before .before .first2 .given .1) (c .released2 .ensures))
+loop-less-2 : tie.Need-loop-less-2 Inv-loop μ-loop
+loop-less-2 c = let tested = c .before .before .before .before .before .before .before .before .before .before .before .before .before .before .before .before .before .before .before .before .before .before .before .before .before .before in omega (arith, tested .loop-test .taken)
+
+loop-again-2 : tie.Need-loop-again-2 Inv-loop μ-loop
+loop-again-2 c =
+    let told = c .before .before .before in
+    let set-free = told .before .before in
+    let chosen = set-free .before .before .before .before in
+    let done = chosen .before in
+    let judged = done .before in
+    let added = judged .before .before .before in
+    let tested = added .before .before .before .before .before .before .before .before .before .before .before .before in
+    let w = tested .before .loop .inv in
+    let before-it = unreleased done in
+    let n = done .match2 .self in
+    let said = judged .judged .result in
+    let freed = chosen .freed-by in
+    let queued = ap (λ (p : Place). setOf p Queue) (freed .ensures) ∙ none-queued said _ _ in
+    let free = freed-some (n .timeslices) _ _ _ _ _ (freed .result) (set-free .release-set .result) (w .entries) (before-it .coded)
+    (set-free .release-set .ensures .0) (set-free .release-set .ensures .1) _ _ queued (told .first .given .1) (c .released .ensures) in
+    goes-on _ _ _ _ _ _ _ _ _ _ w _ _ _ said n _ _ _ (tested .loop-test .taken) (added .added .ensures) (look judged said refl) before-it
+    (rw (freed .ensures) at free)
+
+answered-requires-3 : tie.Need-answered-requires-3 Inv-loop μ-loop
+answered-requires-3 c κs = tt
 
 returns-3 : tie.Need-returns-3 Inv-loop μ-loop
 returns-3 c = rw (c .answered3 .ensures) (out _ _ _ _ _ _ _ _ _ _ (c .before .before .loop .inv) (c .before .loop-test .left))
@@ -231,7 +276,7 @@ choose-spec =
     sub-looks
     top-of-requires
     enum-told
-    (λ _ _. tt)
+    answered-requires
     returns
     enum-known-top
     index-requires-2
@@ -244,10 +289,18 @@ choose-spec =
     element-copy-out-z
     judged-requires
     enum-told-2
-    (λ _ _. tt)
+    answered-requires-2
     returns-2
     enum-told-3
     donated-requires
+    aside-requires
+    mul-x-2
+    element-copy-out-x-2
+    mul-y
+    element-set-from-y
+    code-requires
+    park-codes-requires
+    freed-by-requires
     release-set-requires
     enum-told-4
     loop-less
@@ -256,20 +309,5 @@ choose-spec =
     released-requires
     loop-less-2
     loop-again-2
-    aside-requires
-    mul-x-2
-    element-copy-out-x-2
-    mul-y
-    element-set-from-y
-    code-requires
-    park-codes-requires
-    release-set-requires-2
-    enum-told-5
-    loop-less-3
-    loop-again-3
-    enum-known-first-2
-    released-requires-2
-    loop-less-4
-    loop-again-4
-    (λ _ _. tt)
+    answered-requires-3
     returns-3)

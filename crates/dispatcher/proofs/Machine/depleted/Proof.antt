@@ -6,8 +6,8 @@ use Rattle.rules.specs.Timeslices.{refilled, toBack}
 use Rattle.rules.specs.Events.{depletes}
 use Rattle.dispatcher.proofs.Answering.{chosen}
 use Rattle.dispatcher.proofs.Stored.{turns-fit}
-use Rattle.dispatcher.proofs.Given.{movedTo, refills, left-places, released-shown, turned-exact}
-use Rattle.dispatcher.proofs.Changes.{choosable}
+use Rattle.dispatcher.proofs.TimesliceChanges.{movedTo, refills, left-places, released-shown, turned-exact}
+use Rattle.dispatcher.proofs.ThreadChanges.{choosable}
 use Rattle.dispatcher.proofs.Machine.depleted.Statement.{statement}
 use Rattle.dispatcher.proofs.Machine.depleted.Tie as tie
 
@@ -27,10 +27,10 @@ element-set-from-y : tie.Need-element-set-from-y
 element-set-from-y c = omega (arith, c .before .index .ensures, c .before .before .pre .1 .0)
 
 to-back-requires : tie.Need-to-back-requires
-to-back-requires c κs = let s = c .before .before .before .before in (turns-fit (s .args .t1) (s .pre .0 .exact), s .pre .1 .1)
+to-back-requires c κs = tt
 
 release-requires : tie.Need-release-requires
-release-requires c κs = let s = c .before .before .before .before .before in turns-fit (s .args .t1) (s .pre .0 .exact)
+release-requires c κs = tt
 
 choose-requires : tie.Need-choose-requires
 choose-requires c κs = let s = c .before .before .before .before .before .before in choosable _ (turned-exact (s .args .t1) _ _ _ (s .pre .0 .exact) (c .before .to-back .ensures))
@@ -38,11 +38,12 @@ choose-requires c κs = let s = c .before .before .before .before .before .befor
 returns : tie.Need-returns
 unfolding depletes
 returns c =
-    let a = c .before .before .before .before .before .before .before .args in
+    let start = c .before .before .before .before .before .before .before in
+    let a = start .args in
     let m = a .t1 in
     let at = c .before .before .before .before .before .before .index .ensures in
     chosen (movedTo (m .threads) (c .before .release .result) (c .before .before .to-back .result) m) 0 _ _
-    (released-shown m (behind (a .t)) _ _ _ _ (refilled (a .t) (shown m .slices)) _ (toBack (a .t) (shown m .order)) refl (refills (m .timeslices) _ (a .t) at) (left-places (m .timeslices) _ (a .t) _ at) (c .before .before .to-back .ensures .listed) (c .before .release .ensures))
+    (released-shown m (behind (a .t)) _ _ _ _ (refilled (a .t) (shown m .slices)) _ (toBack (a .t) (shown m .order)) refl (refills (m .timeslices) _ (a .t) at) (left-places (m .timeslices) _ (a .t) _ at) (rw (start .pre .1 .1) at (c .before .before .to-back .ensures .turns)) (c .before .release .ensures))
     (c .choose .ensures)
 
 pub depleted-spec : {M : Type 1} → statement M

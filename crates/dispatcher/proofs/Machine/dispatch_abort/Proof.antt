@@ -6,8 +6,9 @@ use Rattle.rules.specs.declared.Event.the-variants.{Abort}
 use Rattle.rules.specs.Refusals.{linked}
 use Rattle.rules.specs.State.{holdAt}
 use Rattle.rules.specs.Events.{abort}
-use Rattle.dispatcher.proofs.Answering.{refuse, accept, sound-stored}
-use Rattle.dispatcher.proofs.Changes.{read, choosable}
+use Rattle.dispatcher.proofs.Stored.{sound-stored}
+use Rattle.dispatcher.proofs.Answering.{refuse, accept}
+use Rattle.dispatcher.proofs.ThreadChanges.{read, choosable}
 use borrow.Author.Needs.{needs}
 use Rattle.dispatcher.proofs.Machine.dispatch_abort.Statement.{statement}
 use Rattle.dispatcher.proofs.Machine.dispatch_abort.Tie as tie
@@ -41,9 +42,7 @@ returns-3 c =
     refuse _ _ (c .answered3 .ensures) (rw (le-ltb _ _ (c .before .before .before .before .before .before .before .if1 .left), live, free) refl)
 
 abort-walks-requires : tie.Need-abort-walks-requires
-abort-walks-requires c κs =
-    let s = c .before .before .before .before .before .before .before in
-    (choosable _ (sound-stored _ (s .pre)), ap (holdAt (s .args .t1 .threads)) (c .before .before .before .before .before .index .ensures))
+abort-walks-requires c κs = let start = c .before .before .before .before .before .before .before in choosable _ (sound-stored _ (start .pre))
 
 returns-4 : tie.Need-returns-4
 returns-4 c =

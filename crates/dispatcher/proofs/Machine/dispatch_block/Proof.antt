@@ -5,9 +5,10 @@ use Rattle.rules.specs.State.{withThreads}
 use Rattle.rules.specs.Threads.{setHold}
 use Rattle.rules.specs.Events.{block, choosesIn}
 use Rattle.dispatcher.specs.Shown.{shown}
-use Rattle.dispatcher.proofs.Answering.{refuse, accept, chosen, sound-stored}
-use Rattle.dispatcher.proofs.Stored.{live-hold}
-use Rattle.dispatcher.proofs.Changes.{threadsTo, threads-shown, threads-exact}
+use Rattle.dispatcher.proofs.Stored.{sound-stored}
+use Rattle.dispatcher.proofs.Answering.{refuse, accept, chosen}
+use Rattle.tables.proofs.Lives.{live-hold}
+use Rattle.dispatcher.proofs.ThreadChanges.{threadsTo, threads-shown, threads-exact}
 use native.Mathlib.Omega.{arith}
 use borrow.Author.Needs.{needs}
 use Rattle.dispatcher.proofs.Machine.dispatch_block.Statement.{statement}

@@ -7,9 +7,10 @@ use Rattle.dispatcher.specs.Shown.{shown}
 use Rattle.rules.specs.declared.Event.the-variants.{Call}
 use Rattle.rules.specs.Sound.{isIdle, isServer}
 use Rattle.rules.specs.Events.{call, callBy, callDonates, callHelps}
-use Rattle.dispatcher.proofs.Answering.{refuse, accept, sound-stored, sound-shown}
-use Rattle.dispatcher.proofs.Facts.{count-fits}
-use Rattle.dispatcher.proofs.Changes.{read, choosable, call-idle, call-busy}
+use Rattle.dispatcher.proofs.Stored.{sound-stored, sound-shown}
+use Rattle.dispatcher.proofs.Answering.{refuse, accept}
+use Rattle.dispatcher.proofs.Current.{count-fits}
+use Rattle.dispatcher.proofs.ThreadChanges.{read, choosable, call-idle, call-busy}
 use borrow.Author.Needs.{needs}
 use Rattle.dispatcher.proofs.Machine.dispatch_call.Statement.{statement}
 use Rattle.dispatcher.proofs.Machine.dispatch_call.Tie as tie
@@ -62,7 +63,7 @@ call-donates-requires : tie.Need-call-donates-requires
 call-donates-requires c κs =
     let s = c .before .before .before .before .before .before .before .before .before .before .before .before .before in
     let full : length (s .args .t1 .threads) ≡ 128 = simp length-map at (s .good .0 .1 .1 .0 .1 .0 .1) in
-    (choosable _ (sound-stored _ (s .pre)), count-fits (shown (s .args .t1)) _ _ _ full (sound-shown _ (s .pre)) (c .before .before .before .before .before .before .before .before .before .before .before .running .given .1))
+    (choosable _ (sound-stored _ (s .pre)), count-fits (shown (s .args .t1)) _ _ _ (sound-shown _ (s .pre)) (c .before .before .before .before .before .before .before .before .before .before .before .running .given .1) full)
 
 returns-5 : tie.Need-returns-5
 unfolding call

@@ -3,14 +3,16 @@ use mathlib.Core.Path.{refl}
 use native.Mathlib.Omega.{arith}
 use borrow.Author.Tests.{lt-ltb, le-ltb, eq-eqb, ne-eqb}
 use lib.ListN.{getD, take}
-use Rattle.dispatcher.specs.Shown.{shown, freeTimeslice}
+use Rattle.tables.specs.Timeslices.{freeTimeslice}
+use Rattle.dispatcher.specs.Shown.{shown}
 use Rattle.rules.specs.declared.Event.the-variants.{Charge}
-use Rattle.dispatcher.proofs.Answering.{refuse, accept, stands, sound-stored, sound-shown}
-use Rattle.dispatcher.proofs.Facts.{current-fits, current-listed}
-use Rattle.dispatcher.proofs.Given.{left-at, left-places, charges, charge-spent, charge-left}
+use Rattle.dispatcher.proofs.Stored.{sound-stored, sound-shown}
+use Rattle.dispatcher.proofs.Answering.{refuse, accept, stands}
+use Rattle.dispatcher.proofs.Current.{current-fits, current-listed}
+use Rattle.dispatcher.proofs.TimesliceChanges.{left-at, left-places, charges, charge-spent, charge-left}
 use Rattle.rules.specs.Events.{depletes, spends}
 use Rattle.dispatcher.proofs.Stored.{stored-with, live-is}
-use Rattle.dispatcher.proofs.Changes.{choosable}
+use Rattle.dispatcher.proofs.ThreadChanges.{choosable}
 use borrow.Author.Needs.{needs}
 use Rattle.dispatcher.proofs.Machine.dispatch_charge.Statement.{statement}
 use Rattle.dispatcher.proofs.Machine.dispatch_charge.Tie as tie

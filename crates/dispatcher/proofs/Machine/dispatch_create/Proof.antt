@@ -6,9 +6,11 @@ use borrow.Author.Tests.{lt-ltb, le-ltb}
 use Rattle.rules.specs.declared.Event.the-variants.{Create}
 use Rattle.rules.specs.State.{threadAt}
 use Rattle.rules.specs.Events.{create}
-use Rattle.dispatcher.proofs.Answering.{refuse, accept, stands, sound-stored}
-use Rattle.dispatcher.proofs.Stored.{live-is, live-most}
-use Rattle.dispatcher.proofs.Changes.{creation-shown, creation-exact}
+use Rattle.dispatcher.proofs.Stored.{sound-stored}
+use Rattle.dispatcher.proofs.Answering.{refuse, accept, stands}
+use Rattle.tables.proofs.Lives.{live-most}
+use Rattle.dispatcher.proofs.Stored.{live-is}
+use Rattle.dispatcher.proofs.ThreadChanges.{creation-shown, creation-exact}
 use Rattle.dispatcher.specs.Shown.{shown}
 use borrow.Author.Needs.{needs}
 use Rattle.dispatcher.proofs.Machine.dispatch_create.Statement.{statement}

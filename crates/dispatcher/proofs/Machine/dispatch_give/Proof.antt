@@ -8,11 +8,13 @@ use Rattle.rules.specs.declared.Thread.{Thread}
 use Rattle.dispatcher.specs.Shown.{shown}
 use Rattle.rules.specs.declared.Event.the-variants.{Give}
 use Rattle.rules.specs.Events.{give}
-use Rattle.dispatcher.proofs.Answering.{refuse, accept, sound-stored, sound-shown}
+use Rattle.dispatcher.proofs.Stored.{sound-stored, sound-shown}
+use Rattle.dispatcher.proofs.Answering.{refuse, accept}
 use Rattle.dispatcher.proofs.Stored.{turns-fit}
-use Rattle.dispatcher.proofs.Facts.{numbers, once, room}
-use Rattle.dispatcher.proofs.Given.{gift, gift-shown, gift-exact, given-to}
-use Rattle.dispatcher.proofs.Changes.{read, choosable}
+use Rattle.rules.proofs.Soundness.Places.{sound-of}
+use Rattle.dispatcher.proofs.Pigeonhole.{room}
+use Rattle.dispatcher.proofs.TimesliceChanges.{gift, gift-shown, gift-exact, given-to}
+use Rattle.dispatcher.proofs.ThreadChanges.{read, choosable}
 use borrow.Author.Needs.{needs}
 use Rattle.dispatcher.proofs.Machine.dispatch_give.Statement.{statement}
 use Rattle.dispatcher.proofs.Machine.dispatch_give.Tie as tie
@@ -22,10 +24,10 @@ roomy : (c : tie.Else3) → c .before .before .before .before .before .args .t1 
 roomy c =
     let s = c .before .before .before .before .before in
     let m = s .args .t1 in
-    let ok = sound-shown m (s .pre) in
+    let turns = sound-of (shown m) (sound-shown m (s .pre)) .mid .shape .turns in
     let fits = turns-fit m (sound-stored m (s .pre)) in
     let full : length (m .order) ≡ 128 = simp length-map at (s .good .0 .1 .1 .1 .1 .0 .1 .0 .1) in
-    let few = room 128 (s .args .t) (take (m .«live_timeslices») (m .order)) (numbers (shown m) ok) (once (shown m) ok) (omega (arith, c .before .before .before .before .if1 .left)) (sym (c .before .member .ensures) ∙ c .if3 .left) in
+    let few = room 128 (s .args .t) (take (m .«live_timeslices») (m .order)) (turns .small) (turns .once) (omega (arith, c .before .before .before .before .if1 .left)) (sym (c .before .member .ensures) ∙ c .if3 .left) in
     omega (arith, few, length-take-le (m .«live_timeslices») (m .order) (omega arith))
 
 returns : tie.Need-returns
@@ -35,7 +37,7 @@ returns-2 : tie.Need-returns-2
 returns-2 c = refuse _ _ (c .answered2 .ensures) (rw (le-ltb _ _ (c .before .before .if1 .left), lt-ltb _ _ (c .before .if2 .taken)) refl)
 
 member-requires : tie.Need-member-requires
-member-requires c κs = turns-fit _ (sound-stored _ (c .before .before .before .pre))
+member-requires c κs = tt
 
 returns-3 : tie.Need-returns-3
 returns-3 c = refuse _ _ (c .answered3 .ensures) (rw (le-ltb _ _ (c .before .before .before .before .before .if1 .left), le-ltb _ _ (c .before .before .before .before .if2 .left), sym (c .before .before .member .ensures) ∙ c .before .if3 .taken) refl)
@@ -56,7 +58,7 @@ returns-4 c =
     refuse _ _ (c .answered4 .ensures) (rw (le-ltb _ _ (c .before .before .before .before .before .before .before .before .before .if1 .left), le-ltb _ _ (c .before .before .before .before .before .before .before .before .if2 .left), sym (c .before .before .before .before .before .before .member .ensures) ∙ c .before .before .before .before .before .if3 .left, dead) refl)
 
 owns-one-requires : tie.Need-owns-one-requires
-owns-one-requires c κs = turns-fit _ (sound-stored _ (c .before .before .before .before .before .before .before .before .before .before .pre))
+owns-one-requires c κs = tt
 
 returns-5 : tie.Need-returns-5
 returns-5 c =

@@ -9,10 +9,11 @@ use Rattle.rules.specs.declared.Event.the-variants.{Reply}
 use Rattle.rules.specs.Sound.{isServer}
 use Rattle.rules.specs.Threads.{replied}
 use Rattle.rules.specs.Events.{reply, replyBy, replyTo}
-use Rattle.dispatcher.proofs.Answering.{refuse, accept, said-of, sound-stored}
-use Rattle.dispatcher.proofs.Stored.{live-replied}
-use Rattle.dispatcher.proofs.Tables.{past}
-use Rattle.dispatcher.proofs.Changes.{read, choosable, threadsTo, threads-shown, threads-exact}
+use Rattle.dispatcher.proofs.Stored.{sound-stored}
+use Rattle.dispatcher.proofs.Answering.{refuse, accept, said-of}
+use Rattle.tables.proofs.Lives.{live-replied}
+use Rattle.tables.proofs.Lookups.{past}
+use Rattle.dispatcher.proofs.ThreadChanges.{read, choosable, threadsTo, threads-shown, threads-exact}
 use borrow.Author.Needs.{needs}
 use Rattle.dispatcher.proofs.Machine.dispatch_reply.Statement.{statement}
 use Rattle.dispatcher.proofs.Machine.dispatch_reply.Tie as tie
@@ -50,7 +51,7 @@ returns-2 c =
     refuse _ _ (c .answered3 .ensures) (rw (c .before .before .before .before .before .before .before .running .given .1, client) refl)
 
 replied-requires : tie.Need-replied-requires
-replied-requires c κs = let m = c .before .before .before .before .before .before .before .before .before .args .t1 in ap (λ (k : ℕ). serviceAt (m .threads) k) (c .before .before .before .before .before .index .ensures)
+replied-requires c κs = tt
 
 reply-to-requires : tie.Need-reply-to-requires
 reply-to-requires c κs = let s = c .before .before .before .before .before .before .before .before .before .before in choosable _ (threads-exact (s .args .t1) _ _ (sound-stored _ (s .pre)) (c .replied .ensures) (live-replied _ _))

@@ -8,9 +8,10 @@ use Rattle.rules.specs.State.{withThreads}
 use Rattle.rules.specs.Threads.{setHold}
 use Rattle.rules.specs.Sound.{isBlocked}
 use Rattle.rules.specs.Events.{wake, releases}
-use Rattle.dispatcher.proofs.Answering.{refuse, accept, said-of, sound-stored}
-use Rattle.dispatcher.proofs.Stored.{live-hold}
-use Rattle.dispatcher.proofs.Changes.{read, choosable, threadsTo, threads-shown, threads-exact}
+use Rattle.dispatcher.proofs.Stored.{sound-stored}
+use Rattle.dispatcher.proofs.Answering.{refuse, accept, said-of}
+use Rattle.tables.proofs.Lives.{live-hold}
+use Rattle.dispatcher.proofs.ThreadChanges.{read, choosable, threadsTo, threads-shown, threads-exact}
 use borrow.Author.Needs.{needs}
 use Rattle.dispatcher.proofs.Machine.dispatch_wake.Statement.{statement}
 use Rattle.dispatcher.proofs.Machine.dispatch_wake.Tie as tie

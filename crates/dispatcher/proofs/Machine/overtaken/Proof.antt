@@ -14,7 +14,7 @@ enum-known-running : tie.Need-enum-known-running
 enum-known-running c = search needs
 
 stands-above-requires : tie.Need-stands-above-requires
-stands-above-requires c κs = turns-fit _ (c .before .before .before .before .before .pre .exact)
+stands-above-requires c κs = tt
 
 choose-requires-2 : tie.Need-choose-requires-2
 choose-requires-2 c κs = c .before .before .before .before .before .before .before .pre

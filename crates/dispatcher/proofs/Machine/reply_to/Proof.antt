@@ -1,7 +1,7 @@
 use mathlib.Core.Path.{refl}
 use borrow.Author.Tests.{lt-ltb, le-ltb}
 use Rattle.dispatcher.proofs.Answering.{stands}
-use Rattle.dispatcher.proofs.Changes.{running-exact}
+use Rattle.dispatcher.proofs.ThreadChanges.{running-exact}
 use borrow.Author.Needs.{needs}
 use Rattle.dispatcher.proofs.Machine.reply_to.Statement.{statement}
 use Rattle.dispatcher.proofs.Machine.reply_to.Tie as tie

@@ -5,7 +5,7 @@ use Rattle.dispatcher.proofs.Machine.waiters_released.Statement.{statem
 use Rattle.dispatcher.proofs.Machine.waiters_released.Tie as tie
 
 topmost-requires : tie.Need-topmost-requires
-topmost-requires c κs = turns-fit _ (c .before .before .pre .exact)
+topmost-requires c κs = tt
 
 enum-told : tie.Need-enum-told
 enum-told c = search needs
@@ -14,7 +14,7 @@ enum-known-first : tie.Need-enum-known-first
 enum-known-first c = search needs
 
 released-requires : tie.Need-released-requires
-released-requires c κs = turns-fit _ (c .before .before .before .before .before .before .pre .exact)
+released-requires c κs = tt
 
 overtaken-requires : tie.Need-overtaken-requires
 overtaken-requires c κs = freed-exact _ _ _ _ _ (c .before .before .before .before .topmost .ensures) (c .before .before .first .given .1) (c .released .ensures) (c .before .before .before .before .before .before .before .pre)

@@ -1,0 +1,93 @@
+-- The stored machine after an event's changes shows the state after them, and is stored.
+use Prim.Native.Nat.{ℕ, suc, _+_, _<_}
+use mathlib.Core.Path.{_≡_, refl, sym, _∙_, ap, ap₂}
+use mathlib.Core.List.{List}
+use mathlib.Core.Bool.{true, false}
+use native.Mathlib.Omega.{arith}
+use native.Mathlib.Numerals.{add-one}
+use lib.ListN.{length, set}
+use Rattle.rules.specs.declared.Role.{Role}
+use Rattle.rules.specs.declared.Hold.{Hold}
+use Rattle.rules.specs.declared.Hold.the-variants.{Ready, Idle, Blocked, Calling, Helping}
+use Rattle.rules.specs.declared.Service.the-variants.{Nobody}
+use Rattle.rules.specs.Sound.{isIdle}
+use Rattle.rules.specs.Events.{callDonates, callHelps, callAt}
+use Rattle.rules.specs.declared.Thread.{Thread}
+use Rattle.rules.specs.declared.Running.{Running}
+use Rattle.rules.specs.State.{State, threadAt, liveThreads, withThreads, withRunning}
+use Rattle.rules.specs.Threads.{startsAs, created}
+use Rattle.dispatcher.specs.declared.Machine.{Machine}
+use Rattle.dispatcher.specs.Shown.{shown, stored}
+use Rattle.dispatcher.specs.Choosing.{Choosable}
+use Rattle.tables.proofs.Lives.{live-created}
+use Rattle.dispatcher.proofs.Stored.{live-is, stored-with}
+
+-- other threads, with the same L
+abbrev pub threadsTo : List Thread → Machine → Machine
+threadsTo ths m =
+    record { threads = ths; timeslices = m .timeslices; order = m .order; «live_threads» = m .«live_threads»; «live_timeslices» = m .«live_timeslices»; running = m .running }
+
+pub threads-shown : (m : Machine) (ths ths′ : List Thread) → ths ≡ ths′ → shown (threadsTo ths m) ≡ withThreads ths′ (shown m)
+threads-shown m ths ths′ e = ap (λ (l : List Thread). withThreads l (shown m)) e
+
+pub threads-exact : (m : Machine) (ths ths′ : List Thread) → stored m ≡ true → ths ≡ ths′ → liveThreads ths′ ≡ liveThreads (m .threads) → stored (threadsTo ths m) ≡ true
+threads-exact m ths ths′ ok e l = stored-with m ok (threadsTo ths m) refl refl (live-is m ok ∙ sym l ∙ sym (ap liveThreads e))
+
+-- a new thread
+module _ (m : Machine) (k n : ℕ) (r : Role) (h : Hold) (at : k ≡ n) (starts : h ≡ startsAs r) where
+  abbrev creation : Machine
+  creation =
+      record {
+        threads = set (m .threads) k (record { live = true; role = r; hold = h; service = Nobody });
+        timeslices = m .timeslices;
+        order = m .order;
+        «live_threads» = m .«live_threads» + 1;
+        «live_timeslices» = m .«live_timeslices»;
+        running = m .running;
+      }
+
+  creates : set (m .threads) k (record { live = true; role = r; hold = h; service = Nobody }) ≡ created n r (m .threads)
+  unfolding created
+  creates = ap₂ (λ (j : ℕ) (g : Hold). set (m .threads) j (record { live = true; role = r; hold = g; service = Nobody })) at starts
+
+  pub creation-shown : shown creation ≡ withThreads (created n r (m .threads)) (shown m)
+  creation-shown = ap (λ (l : List Thread). withThreads l (shown m)) creates
+
+  pub creation-exact : stored m ≡ true → n < length (m .threads) → threadAt (m .threads) n .live ≡ false → stored creation ≡ true
+  creation-exact ok short free =
+      stored-with m ok creation refl refl
+      (add-one (m .«live_threads») ∙ ap suc (live-is m ok) ∙ sym (live-created n r (m .threads) short free) ∙ sym (ap liveThreads creates))
+
+-- what stands at an index stands at its number
+pub read : {A : Type 0} (f : Thread → A) (ts : List Thread) (k n : ℕ) (v : A) → k ≡ n → f (threadAt ts k) ≡ v → f (threadAt ts n) ≡ v
+read f ts k n v e is = sym (ap (λ (j : ℕ). f (threadAt ts j)) e) ∙ is
+
+pub choosable : (m : Machine) → stored m ≡ true → Choosable m 0
+choosable m ok = record { exact = ok; few = omega arith }
+
+-- the server runs, after a donation to it
+abbrev pub runningTo : List Thread → Running → Machine → Machine
+runningTo ths r m =
+    record { threads = ths; timeslices = m .timeslices; order = m .order; «live_threads» = m .«live_threads»; «live_timeslices» = m .«live_timeslices»; running = r }
+
+pub running-shown : (m : Machine) (ths ths′ : List Thread) (r : Running) → ths ≡ ths′ → shown (runningTo ths r m) ≡ withRunning r (withThreads ths′ (shown m))
+running-shown m ths ths′ r e = ap (λ (l : List Thread). withRunning r (withThreads l (shown m))) e
+
+pub running-exact : (m : Machine) (ths ths′ : List Thread) (r : Running) → stored m ≡ true → ths ≡ ths′ → liveThreads ths′ ≡ liveThreads (m .threads)
+    → stored (runningTo ths r m) ≡ true
+running-exact m ths ths′ r ok e l = stored-with m ok (runningTo ths r m) refl refl (live-is m ok ∙ sym l ∙ sym (ap liveThreads e))
+
+-- a call, by the server's hold
+pub call-idle : (server caller t count : ℕ) (s : State) (h : Hold) → isIdle h ≡ true → callDonates server caller t count s ≡ callAt server caller t count s h
+call-idle server caller t count s Ready e = let z : _≡_ {A = ℕ} 0 1 = cc in absurd (omega arith)
+call-idle server caller t count s Idle e = refl
+call-idle server caller t count s Blocked e = let z : _≡_ {A = ℕ} 0 1 = cc in absurd (omega arith)
+call-idle server caller t count s (Calling n) e = let z : _≡_ {A = ℕ} 0 1 = cc in absurd (omega arith)
+call-idle server caller t count s (Helping n) e = let z : _≡_ {A = ℕ} 0 1 = cc in absurd (omega arith)
+
+pub call-busy : (server caller t count : ℕ) (s : State) (h : Hold) → isIdle h ≡ false → callHelps server caller s ≡ callAt server caller t count s h
+call-busy server caller t count s Ready e = refl
+call-busy server caller t count s Idle e = let z : _≡_ {A = ℕ} 0 1 = cc in absurd (omega arith)
+call-busy server caller t count s Blocked e = refl
+call-busy server caller t count s (Calling n) e = refl
+call-busy server caller t count s (Helping n) e = refl

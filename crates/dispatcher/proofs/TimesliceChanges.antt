@@ -1,0 +1,154 @@
+-- Give, charge and abort: the stored machine after their changes shows the state after them, and is stored.
+use Prim.Native.Nat.{ℕ, _+_, _-_, _<_}
+use mathlib.Core.Path.{_≡_, refl, sym, _∙_, ap, ap₂, subst}
+use mathlib.Core.List.{List, [], _∷_, _++_, map}
+use mathlib.Core.Bool.{Bool, true, false, cond}
+use mathlib.Core.Option.{some}
+use native.Mathlib.Omega.{arith}
+use native.Mathlib.Numerals.{add-one}
+use lib.ListN.{length, getD, set, take}
+use lib.Dec.{eqb}
+use borrow.Author.Tests.{eq-eqb, ne-eqb}
+use lib.Seq.{map-set-same, take-suc-set, getD-set-other}
+use Rattle.rules.specs.declared.Thread.{Thread}
+use Rattle.rules.specs.declared.Place.{Place}
+use Rattle.rules.specs.declared.Place.the-variants.{Queue}
+use Rattle.rules.specs.declared.Chain.{Chain}
+use Rattle.rules.specs.declared.Running.the-variants.{Runs}
+use Rattle.rules.specs.declared.Timeslice.{Timeslice}
+use Rattle.rules.specs.State.{Slice, State, sliceAt, holdAt, withThreads, withTimeslices}
+use Rattle.rules.specs.Walk.{walk}
+use Rattle.rules.specs.Threads.{aborted}
+use Rattle.rules.specs.Timeslices.{withLeft, setLeft, given, last, charged, refilled}
+use Rattle.rules.specs.Release.{release}
+use Rattle.rules.specs.Sound.{isBlocked}
+use Rattle.rules.specs.Choice.{Outcome, choose}
+use Rattle.rules.specs.Events.{withGiven, releaseAbort, abortAfter, abort, depletes, spends, chargeBy, charge, overtakes, settleIf, settle}
+use Rattle.dispatcher.specs.declared.Machine.{Machine}
+use Rattle.dispatcher.specs.declared.Answered.{Answered}
+use Rattle.tables.specs.Timeslices.{sliceOf, placeOf, freeTimeslice}
+use Rattle.dispatcher.specs.Shown.{shown, stored}
+use Rattle.tables.specs.Releasing.{placesAfter, Replaced}
+use Rattle.tables.specs.Turning.{Turned}
+use Rattle.dispatcher.specs.Choosing.{before, Settled, Chosen}
+use Rattle.tables.proofs.Lookups.{slice-at, map-set}
+use Rattle.tables.proofs.ReleaseLoop.{release-is}
+use Rattle.dispatcher.proofs.Stored.{live-is, turns-fit, free-zero, stored-of}
+
+-- a new timeslice, last in turn order
+module _ (m : Machine) (j i t n p q : ℕ) (at : j ≡ t) (end : i ≡ m .«live_timeslices») (short : m .«live_timeslices» < 128) where
+  abbrev pub gift : Machine
+  gift =
+      record {
+        threads = m .threads;
+        timeslices = set (m .timeslices) j (record { owner = n; priority = p; quantum = q; left = q; place = Queue });
+        order = set (m .order) i t;
+        «live_threads» = m .«live_threads»;
+        «live_timeslices» = m .«live_timeslices» + 1;
+        running = m .running;
+      }
+
+  pub gift-shown : length (m .order) ≡ 128 → shown gift ≡ withGiven t n p q (shown m)
+  unfolding withGiven given last
+  gift-shown full =
+      let x : Timeslice = record { owner = n; priority = p; quantum = q; left = q; place = Queue } in
+      let slices : map sliceOf (set (m .timeslices) j x) ≡ set (map sliceOf (m .timeslices)) t (sliceOf x) =
+      map-set sliceOf (m .timeslices) j x ∙ ap (λ (k : ℕ). set (map sliceOf (m .timeslices)) k (sliceOf x)) at in
+      let places : map placeOf (set (m .timeslices) j x) ≡ set (map placeOf (m .timeslices)) t Queue =
+      map-set placeOf (m .timeslices) j x ∙ ap (λ (k : ℕ). set (map placeOf (m .timeslices)) k Queue) at in
+      let order : take (m .«live_timeslices» + 1) (set (m .order) i t) ≡ take (m .«live_timeslices») (m .order) ++ (t ∷ []) =
+      rw (end, add-one (m .«live_timeslices»)) (take-suc-set (m .order) (m .«live_timeslices») t (omega arith)) in
+      λ k. record { threads = m .threads; slices = slices k; places = places k; order = order k; running = m .running }
+
+  pub gift-exact : stored m ≡ true → stored gift ≡ true
+  gift-exact ok =
+      stored-of gift (live-is m ok) (omega arith)
+      (λ k past fits. getD-set-other (m .order) i k t 0 (λ e. absurd (omega arith)) ∙ free-zero m ok k (omega arith) fits)
+
+-- what is left of a timeslice
+module _ (ts : List Timeslice) (k t l : ℕ) (at : k ≡ t) where
+  abbrev pub spent : Timeslice
+  spent = let x = getD ts k freeTimeslice in record { owner = x .owner; priority = x .priority; quantum = x .quantum; left = l; place = x .place }
+
+  pub left-slices : map sliceOf (set ts k spent) ≡ setLeft t l (map sliceOf ts)
+  unfolding setLeft
+  left-slices =
+      map-set sliceOf ts k spent
+      ∙ ap (λ (x : Slice). set (map sliceOf ts) k (withLeft l x)) (sym (slice-at ts k))
+      ∙ ap (λ (j : ℕ). set (map sliceOf ts) j (withLeft l (sliceAt (map sliceOf ts) j))) at
+
+  pub left-places : map placeOf (set ts k spent) ≡ map placeOf ts
+  left-places = map-set-same placeOf ts k spent freeTimeslice refl
+
+-- a machine with other threads, timeslices and turn order
+abbrev pub movedTo : List Thread → List Timeslice → List ℕ → Machine → Machine
+movedTo ths ts order m =
+    record { threads = ths; timeslices = ts; order = order; «live_threads» = m .«live_threads»; «live_timeslices» = m .«live_timeslices»; running = m .running }
+
+-- a release, after other threads, timeslices and another turn order
+pub released-shown : (m : Machine) (at : Place → Bool) (ths ths′ : List Thread) (ts free : List Timeslice) (ss : List Slice) (turns : List ℕ) (order : List ℕ)
+    → ths ≡ ths′ → map sliceOf ts ≡ ss → map placeOf ts ≡ map placeOf (m .timeslices) → take (m .«live_timeslices») turns ≡ order
+    → Replaced ts (placesAfter at (map sliceOf ts) (take (m .«live_timeslices») turns) (map placeOf ts)) free
+    → shown (movedTo ths free turns m)
+    ≡ release at (withTimeslices ss order (withThreads ths′ (shown m)))
+released-shown m at ths ths′ ts free ss turns order e s p o r =
+    let places : map placeOf free ≡ placesAfter at ss order (map placeOf (m .timeslices)) =
+    r .places ∙ ap (λ (x : List Slice). placesAfter at x (take (m .«live_timeslices») turns) (map placeOf ts)) s
+    ∙ ap (λ (x : List ℕ). placesAfter at ss x (map placeOf ts)) o ∙ ap (placesAfter at ss order) p in
+    let slices : map sliceOf free ≡ ss = r .slices ∙ s in
+    (λ k. record { threads = e k; slices = slices k; places = places k; order = o k; running = m .running })
+    ∙ sym (release-is at (withTimeslices ss order (withThreads ths′ (shown m))))
+
+-- the turn order after a move to its back is stored
+pub turned-exact : (m : Machine) (t : ℕ) (back : List ℕ) (ts : List Timeslice) → stored m ≡ true → Turned t (m .«live_timeslices») (m .order) back
+    → stored (movedTo (m .threads) ts back m) ≡ true
+turned-exact m t back ts ok d =
+    stored-of _ (live-is m ok) (turns-fit m ok) (λ k past fits. d .free k (omega arith) ∙ free-zero m ok k past fits)
+
+-- an abort, by what its walk came to
+pub aborts : (m : Machine) (n : ℕ) (c : Chain) (k : ℕ) (m′ : Machine) (r : Answered) → c ≡ walk (m .threads) n → k ≡ c .links
+    → shown m′ ≡ releaseAbort (c .looped) (isBlocked (holdAt (m .threads) (c .end))) (c .end) (withThreads (aborted n (m .threads)) (shown m))
+    → Chosen m′ k r → Settled (settle (abort n (shown m))) r
+unfolding abort abortAfter
+aborts m n c k m′ r is e shows ch =
+    subst (λ (o : Outcome). Settled (choose o) r)
+    (ap₂ (λ s l. record { state = s; links = l }) shows e
+    ∙ ap (λ (d : Chain). record { state = releaseAbort (d .looped) (isBlocked (holdAt (m .threads) (d .end))) (d .end) (withThreads (aborted n (m .threads)) (shown m)); links = d .links }) is)
+    ch
+
+-- the choice after a give
+pub given-to : (t : ℕ) (m : Machine) (s : State) (r : Answered) → shown m ≡ s → Settled (settleIf (overtakes (shown m) (some t)) (before m 0)) r
+    → Settled (settleIf (overtakes s (some t)) (record { state = s; links = 0 })) r
+given-to t m s r e h = subst (λ (u : State). Settled (settleIf (overtakes u (some t)) (record { state = u; links = 0 })) r) e h
+
+-- what is left and the quantum, read at the timeslice's index
+pub left-at : (ts : List Timeslice) (k t : ℕ) → k ≡ t → sliceAt (map sliceOf ts) t .left ≡ getD ts k freeTimeslice .left
+left-at ts k t at = ap (λ (x : Slice). x .left) (slice-at ts t) ∙ sym (ap (λ (j : ℕ). getD ts j freeTimeslice .left) at)
+
+quantum-at : (ts : List Timeslice) (k t : ℕ) → k ≡ t → sliceAt (map sliceOf ts) t .quantum ≡ getD ts k freeTimeslice .quantum
+quantum-at ts k t at = ap (λ (x : Slice). x .quantum) (slice-at ts t) ∙ sym (ap (λ (j : ℕ). getD ts j freeTimeslice .quantum) at)
+
+pub refills : (ts : List Timeslice) (k t : ℕ) (at : k ≡ t)
+    → map sliceOf (set ts k (spent ts k t (getD ts k freeTimeslice .quantum) at)) ≡ refilled t (map sliceOf ts)
+unfolding refilled
+refills ts k t at = left-slices ts k t (getD ts k freeTimeslice .quantum) at ∙ ap (λ (l : ℕ). setLeft t l (map sliceOf ts)) (sym (quantum-at ts k t at))
+
+pub charges : (ts : List Timeslice) (k t units : ℕ) (at : k ≡ t)
+    → map sliceOf (set ts k (spent ts k t (getD ts k freeTimeslice .left - units) at)) ≡ charged t units (map sliceOf ts)
+unfolding charged
+charges ts k t units at =
+    left-slices ts k t (getD ts k freeTimeslice .left - units) at ∙ ap (λ (l : ℕ). setLeft t (l - units) (map sliceOf ts)) (sym (left-at ts k t at))
+
+-- a charge, by what is left
+module _ (m : Machine) (n t count units k : ℕ) (run : m .running ≡ Runs n t count) (at : k ≡ t) where
+  pub charge-spent : getD (m .timeslices) k freeTimeslice .left ≡ units → depletes t (shown m) ≡ charge units (shown m)
+  unfolding charge
+  charge-spent e =
+      let same : eqb (sliceAt (map sliceOf (m .timeslices)) t .left) units ≡ true = eq-eqb _ _ (left-at (m .timeslices) k t at ∙ e) in
+      sym (ap (chargeBy units (shown m)) run ∙ ap (λ (b : Bool). cond b (depletes t (shown m)) (spends t units (shown m))) same)
+
+  pub charge-left : (getD (m .timeslices) k freeTimeslice .left ≡ units → ⊥) → spends t units (shown m) ≡ charge units (shown m)
+  unfolding charge
+  charge-left e =
+      let other : eqb (sliceAt (map sliceOf (m .timeslices)) t .left) units ≡ false = ne-eqb _ _ (λ q. e (sym (left-at (m .timeslices) k t at) ∙ q)) in
+      sym (ap (chargeBy units (shown m)) run ∙ ap (λ (b : Bool). cond b (depletes t (shown m)) (spends t units (shown m))) other)

@@ -1,0 +1,78 @@
+// Document 01, "Events" and "Refusals, operation by operation": Charge.
+ghost use mathlib.Core.Path.{_≡_};
+ghost use mathlib.Core.Bool.{true};
+ghost use Rattle.rules.specs.declared.Event.the-variants.{Charge};
+ghost use Prim.Native.Nat.{_<_};
+ghost use Rattle.rules.specs.Events.{dispatch, settle, depletes};
+ghost use Rattle.rules.specs.Tests.{member as memberOf};
+ghost use Rattle.dispatcher.specs.Choosing.{Choosable, Settled};
+ghost use Rattle.dispatcher.specs.Shown.{shown, soundMachine};
+ghost use Rattle.dispatcher.specs.Promise.{Answers};
+use crate::Answered;
+use crate::Machine;
+use rules::Place;
+use rules::Running;
+use rules::Timeslice;
+use tables::numbers::index;
+use tables::release::release;
+use tables::turns::to_back;
+
+impl Machine {
+    // The current timeslice is refilled and goes to the back, and its followers are released.
+    pub(crate) fn depleted(mut self, t: u8) -> Answered
+        requires { ⌜ Choosable self 0 ⌝ }
+        requires { ⌜ t < 128 ⌝ }
+        requires { ⌜ memberOf t (shown self .order) ≡ true ⌝ }
+        ensures { λ r. ⌜ Settled (settle (depletes t (shown self))) r ⌝ }
+    {
+        let k = index(t);
+        let x = self.timeslices[k];
+        let y = Timeslice {
+            left: x.quantum,
+            ..x
+        };
+        self.timeslices[k] = y;
+        let timeslices = self.timeslices;
+        let order = self.order;
+        let live = self.live_timeslices;
+        let back = to_back(order, live, t);
+        self.order = back;
+        let free = release(timeslices, back, live, Place::Behind(t));
+        self.timeslices = free;
+        self.choose(0)
+    }
+
+    pub(crate) fn dispatch_charge(mut self, units: u16) -> Answered
+        requires { ⌜ soundMachine self ≡ true ⌝ }
+        ensures { λ r. ⌜ Answers (dispatch (Charge units) (shown self)) self r ⌝ }
+    {
+        let running = self.running;
+        match running {
+            Running::Nothing => self.answered(5, 0),
+            Running::Runs {
+                thread: _,
+                timeslice: t,
+                count: _,
+            } => {
+                if units == 0 {
+                    return self.answered(11, 0);
+                }
+                let k = index(t);
+                let x = self.timeslices[k];
+                let left = x.left;
+                if left < units {
+                    return self.answered(11, 0);
+                }
+                if left == units {
+                    return self.depleted(t);
+                }
+                let y = Timeslice {
+                    left: left - units,
+                    ..x
+                };
+                self.timeslices[k] = y;
+                self.answered(0, 0)
+            }
+        }
+    }
+}

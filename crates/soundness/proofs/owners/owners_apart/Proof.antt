@@ -1,0 +1,21 @@
+-- The owners are laid out in turn order, and then none may stand twice.
+use mathlib.Core.Path.{_∙_, ap}
+use Rattle.rules.specs.Tests.{distinct}
+use Rattle.soundness.proofs.Loops.{mapped-front}
+use Rattle.soundness.proofs.owners.owners_apart.Statement.{statement}
+use Rattle.soundness.proofs.owners.owners_apart.Tie as tie
+
+owners-requires : tie.Need-owners-requires
+owners-requires c κs = tt
+
+listed-once-requires : tie.Need-listed-once-requires
+listed-once-requires c κs = tt
+
+returns : tie.Need-returns
+returns c =
+    let start = c .before .before in
+    let laid = c .before .owners in
+    c .listed-once .ensures ∙ ap distinct (mapped-front _ (start .args .order) (start .good .1 .0 .1 .0 .1) (start .args .live) _ (laid .ensures))
+
+pub owners-apart-spec : {M : Type 1} → statement M
+owners-apart-spec = tie.close (tie.spec owners-requires listed-once-requires returns)

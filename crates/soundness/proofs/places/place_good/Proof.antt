@@ -1,0 +1,101 @@
+-- The place decides which clause is asked; the walk of On and of Stalled is from the owner read.
+use mathlib.Core.Path.{_∙_}
+use Rattle.rules.specs.declared.Place.the-variants.{Queue, Behind, On, Stalled}
+use Rattle.rules.specs.Sound.{waitsAt, isStalls}
+use Rattle.soundness.proofs.Clauses.{verdict-test, chain-is, place-is}
+use borrow.Author.Needs.{needs}
+use Rattle.soundness.proofs.places.place_good.Statement.{statement}
+use Rattle.soundness.proofs.places.place_good.Tie as tie
+
+timeslice-at-requires : tie.Need-timeslice-at-requires
+timeslice-at-requires c κs = tt
+
+enum-told : tie.Need-enum-told
+enum-told c = search needs
+
+enum-known-place : tie.Need-enum-known-place
+enum-known-place c = search needs
+
+behind-good-requires : tie.Need-behind-good-requires
+behind-good-requires c κs = tt
+
+enum-known-place-2 : tie.Need-enum-known-place-2
+enum-known-place-2 c = search needs
+
+walk-requires : tie.Need-walk-requires
+walk-requires c κs = tt
+
+verdict-of-requires : tie.Need-verdict-of-requires
+verdict-of-requires c κs = tt
+
+waits-at-requires : tie.Need-waits-at-requires
+waits-at-requires c κs = tt
+
+enum-told-2 : tie.Need-enum-told-2
+enum-told-2 c = search needs
+
+walk-requires-2 : tie.Need-walk-requires-2
+walk-requires-2 c κs = tt
+
+verdict-of-requires-2 : tie.Need-verdict-of-requires-2
+verdict-of-requires-2 c κs = tt
+
+is-stalls-requires : tie.Need-is-stalls-requires
+is-stalls-requires c κs = tt
+
+returns : tie.Need-returns
+returns c =
+    let read = c .before .before in
+    let start = read .before in
+    place-is (start .args .threads) (start .args .timeslices) (start .args .order) (start .args .live-threads) (start .args .live) _ _ Queue (read .timeslice-at .ensures) (c .enum-told .given .1)
+
+returns-2 : tie.Need-returns-2
+returns-2 c =
+    let told = c .before .before in
+    let read = told .before .before in
+    let start = read .before in
+    c .behind-good .ensures
+    ∙ place-is (start .args .threads) (start .args .timeslices) (start .args .order) (start .args .live-threads) (start .args .live) _ _ (Behind _) (read .timeslice-at .ensures) (told .place .given .1)
+
+returns-3 : tie.Need-returns-3
+returns-3 c =
+    let walked = c .before .before in
+    let told = walked .before .before in
+    let read = told .before .before in
+    let start = read .before in
+    let chain = chain-is _ (start .args .threads) (start .args .timeslices) _ _ _ (read .timeslice-at .ensures) (walked .walk .ensures) in
+    let said = c .before .verdict-of in
+    verdict-test (start .args .threads) (waitsAt _) _ _ (said .result) _ (c .waits-at .ensures) (said .ensures) chain
+    ∙ place-is (start .args .threads) (start .args .timeslices) (start .args .order) _ (start .args .live) _ _ (On _) (read .timeslice-at .ensures) (told .place2 .given .1)
+
+returns-4 : tie.Need-returns-4
+returns-4 c =
+    let walked = c .before .before in
+    let told = walked .before in
+    let read = told .before .before in
+    let start = read .before in
+    let chain = chain-is _ (start .args .threads) (start .args .timeslices) _ _ _ (read .timeslice-at .ensures) (walked .walk2 .ensures) in
+    let said = c .before .verdict-of2 in
+    verdict-test (start .args .threads) (λ d v. isStalls v) _ _ (said .result) _ (c .is-stalls .ensures) (said .ensures) chain
+    ∙ place-is (start .args .threads) (start .args .timeslices) (start .args .order) _ (start .args .live) _ _ Stalled (read .timeslice-at .ensures) (told .enum-told2 .given .1)
+
+pub place-good-spec : {M : Type 1} → statement M
+place-good-spec =
+    tie.close
+    (tie.spec
+    timeslice-at-requires
+    enum-told
+    enum-known-place
+    behind-good-requires
+    enum-known-place-2
+    walk-requires
+    verdict-of-requires
+    waits-at-requires
+    enum-told-2
+    walk-requires-2
+    verdict-of-requires-2
+    is-stalls-requires
+    returns
+    returns-2
+    returns-3
+    returns-4)

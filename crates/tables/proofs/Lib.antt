@@ -1,0 +1,10 @@
+-- The laws behind the functions on the tables; the proof of a function stands in the folder of its module, under its own name.
+pub mod Lookups
+pub mod Lives
+pub mod Walks
+pub mod Along
+pub mod Above
+pub mod Shifts
+pub mod ReleaseLoop
+pub mod Searches
+pub mod Recodings

@@ -1,0 +1,26 @@
+-- The arrays are filled from the tables, so that the search through them is the search that document 01 defines.
+use mathlib.Core.Path.{_∙_, refl}
+use Rattle.tables.proofs.Searches.{coded-by, top-is}
+use Rattle.tables.proofs.heights.topmost.Statement.{statement}
+use Rattle.tables.proofs.heights.topmost.Tie as tie
+
+fill-requires : tie.Need-fill-requires
+fill-requires c κs = tt
+
+code-requires : tie.Need-code-requires
+code-requires c κs = tt
+
+top-of-requires : tie.Need-top-of-requires
+top-of-requires c κs = tt
+
+returns : tie.Need-returns
+returns c =
+    let coded = c .before .before .before .before in
+    let filled = coded .before .fill .ensures in
+    let start = coded .before .before .before .before in
+    let codes = coded-by (start .args .timeslices) (start .args .t2) (start .args .live) _ _ _ _ refl refl (filled .0) (filled .1) in
+    c .top-of .ensures
+    ∙ rw (coded .code .ensures) (top-is (start .args .timeslices) (start .args .t2) (start .args .live) _ _ (start .good .1 .0 .1 .0 .1) codes (start .args .set))
+
+pub topmost-spec : {M : Type 1} → statement M
+topmost-spec = tie.close (tie.spec fill-requires code-requires top-of-requires returns)

@@ -1,0 +1,54 @@
+use mathlib.Core.Path.{_≡_}
+use mathlib.Core.List.{map}
+use mathlib.Core.Logic.{⊎-elim}
+use Rattle.rules.specs.State.{priorityAt}
+use Rattle.tables.specs.Timeslices.{sliceOf}
+use Rattle.tables.proofs.Lookups.{priority-is, priority-none}
+use Rattle.tables.proofs.Above.{higher, equal, lower}
+use borrow.Author.Needs.{needs}
+use Rattle.tables.proofs.order.stands_above.Statement.{statement}
+use Rattle.tables.proofs.order.stands_above.Tie as tie
+
+-- both priorities, where they are compared
+high : (c : tie.Joined2) → c .before .before .if1 .high ≡ priorityAt (map sliceOf (c .before .before .before .before .args .t1)) (c .before .before .before .before .args .a)
+high c =
+    let s = c .before .before .before .before in
+    ⊎-elim (λ o. priority-is (s .args .t1) _ _ _ (c .before .before .before .index .ensures) (o .2)) (λ o. priority-none (s .args .t1) _ _ _ (s .good .0 .1 .0 .1) (c .before .before .before .index .ensures) (o .0 .left) (o .1)) (c .before .before .if1 .came)
+
+low : (c : tie.Joined2) → c .if2 .low ≡ priorityAt (map sliceOf (c .before .before .before .before .args .t1)) (c .before .before .before .before .args .b)
+low c =
+    let s = c .before .before .before .before in
+    ⊎-elim (λ o. priority-is (s .args .t1) _ _ _ (c .before .index2 .ensures) (o .2)) (λ o. priority-none (s .args .t1) _ _ _ (s .good .0 .1 .0 .1) (c .before .index2 .ensures) (o .0 .left) (o .1)) (c .if2 .came)
+
+index-requires : tie.Need-index-requires
+index-requires c κs = tt
+
+mul-x : tie.Need-mul-x
+mul-x c = search needs
+
+array-copy-out-x : tie.Need-array-copy-out-x
+array-copy-out-x c = search needs
+
+index-requires-2 : tie.Need-index-requires-2
+index-requires-2 c κs = tt
+
+mul-y : tie.Need-mul-y
+mul-y c = search needs
+
+array-copy-out-y : tie.Need-array-copy-out-y
+array-copy-out-y c = search needs
+
+returns : tie.Need-returns
+returns c = higher _ _ _ _ _ _ (high (c .before)) (low (c .before)) (c .if3 .taken)
+
+earlier-requires : tie.Need-earlier-requires
+earlier-requires c κs = tt
+
+returns-2 : tie.Need-returns-2
+returns-2 c = equal _ _ _ _ _ _ (high (c .before .before .before)) (low (c .before .before .before)) _ (c .before .if4 .taken) (c .earlier .ensures)
+
+returns-3 : tie.Need-returns-3
+returns-3 c = lower _ _ _ _ _ _ (high (c .before .before)) (low (c .before .before)) (c .before .if3 .left) (c .if4 .left)
+
+pub stands-above-spec : {M : Type 1} → statement M
+stands-above-spec = tie.close (tie.spec index-requires mul-x array-copy-out-x index-requires-2 mul-y array-copy-out-y returns earlier-requires returns-2 returns-3)

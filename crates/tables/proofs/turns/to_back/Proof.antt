@@ -1,0 +1,28 @@
+-- Where the timeslice stands it is struck out and put last; where it is not listed nothing moves.
+use mathlib.Core.Path.{sym}
+use native.Mathlib.Omega.{arith}
+use Rattle.tables.proofs.Shifts.{turned, unturned}
+use Rattle.tables.proofs.turns.to_back.Statement.{statement}
+use Rattle.tables.proofs.turns.to_back.Tie as tie
+
+position-requires : tie.Need-position-requires
+position-requires c κs = tt
+
+entries-requires : tie.Need-entries-requires
+entries-requires c κs = tt
+
+shifted-requires : tie.Need-shifted-requires
+shifted-requires c κs = omega (arith, c .before .entries .ensures, c .if1 .taken)
+
+returns : tie.Need-returns
+returns c =
+    let sought = c .before .before in
+    turned _ _ _ _ _ (omega (arith, sought .entries .ensures, c .before .if1 .taken)) (sought .before .position .ensures) (c .shifted .ensures)
+
+returns-2 : tie.Need-returns-2
+returns-2 c =
+    let sought = c .before in
+    unturned _ _ _ _ (omega (arith, sought .entries .ensures, c .if1 .left)) (sought .before .position .ensures)
+
+pub to-back-spec : {M : Type 1} → statement M
+to-back-spec = tie.close (tie.spec position-requires entries-requires shifted-requires returns returns-2)

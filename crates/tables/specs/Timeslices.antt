@@ -1,0 +1,20 @@
+-- A stored timeslice has its place beside what document 01's rules call a slice.
+use Rattle.rules.specs.declared.Place.{Place}
+use Rattle.rules.specs.declared.Place.the-variants.{Queue}
+use Rattle.rules.specs.declared.Timeslice.{Timeslice}
+use Rattle.rules.specs.State.{Slice}
+
+-- "Free slots hold one fixed value"
+abbrev pub freeTimeslice : Timeslice
+freeTimeslice = record { owner = 0; priority = 0; quantum = 0; left = 0; place = Queue }
+
+-- a stored timeslice without its place, and its place
+abbrev pub sliceOf : Timeslice → Slice
+sliceOf x = record { owner = x .owner; priority = x .priority; quantum = x .quantum; left = x .left }
+
+abbrev pub placeOf : Timeslice → Place
+placeOf x = x .place
+
+-- a stored timeslice at another place
+abbrev pub withPlace : Place → Timeslice → Timeslice
+withPlace p x = record { owner = x .owner; priority = x .priority; quantum = x .quantum; left = x .left; place = p }

@@ -1,0 +1,50 @@
+// Document 01, "The walk": what the end of a chain says of its timeslice.
+ghost use mathlib.Core.Path.{_≡_};
+ghost use mathlib.Core.Bool.{cond};
+ghost use Rattle.rules.specs.Walk.{atEnd, stalls, verdict};
+ghost use Rattle.tables.specs.Verdicts.{verdictOf};
+use crate::lookup::thread_at;
+use rules::Chain;
+use rules::Hold;
+use rules::Thread;
+
+pub enum Verdict {
+    Runs,
+    Retries,
+    Waits,
+    Stalls,
+}
+
+pub fn at_end(hold: Hold, links: u8) -> Verdict
+    ensures { λ r. ⌜ verdictOf r ≡ atEnd hold links ⌝ }
+{
+    match hold {
+        Hold::Ready => Verdict::Runs,
+        Hold::Idle => {
+            if 0 < links {
+                return Verdict::Retries;
+            }
+            Verdict::Waits
+        }
+        Hold::Blocked => Verdict::Waits,
+        Hold::Calling(_) => Verdict::Waits,
+        Hold::Helping(_) => Verdict::Waits,
+    }
+}
+
+pub fn judged(looped: bool, hold: Hold, links: u8) -> Verdict
+    ensures { λ r. ⌜ verdictOf r ≡ cond looped stalls (atEnd hold links) ⌝ }
+{
+    if looped {
+        return Verdict::Stalls;
+    }
+    at_end(hold, links)
+}
+
+pub fn verdict_of(threads: [Thread; 128], chain: Chain) -> Verdict
+    ensures { λ r. ⌜ verdictOf r ≡ verdict threads chain ⌝ }
+{
+    let last = thread_at(threads, chain.end);
+    let hold = last.hold;
+    judged(chain.looped, hold, chain.links)
+}
