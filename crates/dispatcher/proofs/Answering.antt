@@ -15,17 +15,26 @@ use Rattle.dispatcher.specs.Promise.{Answers}
 use Rattle.dispatcher.proofs.Stored.{sound-stored}
 
 module _ (e : Event) (m : Machine) where
-  pub refuse : {n : ℕ} {r : Answered} → r ≡ record { machine = m; refusal = suc n; links = 0 } → refusal e (forget (shown m)) ≡ suc n → Answers (dispatch e (shown m)) m r
+  pub refuse : {n : ℕ} {r : Answered} → r ≡ record { machine = m; refusal = suc n; links = 0 } → refusal e (forget (shown m)) ≡ suc n
+      → Answers (dispatch e (shown m)) m r
   unfolding dispatch
   refuse is h = rw (is, h) (record { refusal = refl; links = refl; state = refl; exact = refl; kept = λ _. refl })
 
-  pub accept : soundMachine m ≡ true → refusal e (forget (shown m)) ≡ 0 → (w : Midway) → w ≡ midway e (shown m) → (r : Answered) → Settled (settle w) r
+  pub accept : soundMachine m ≡ true → refusal e (forget (shown m)) ≡ 0 → (w : Midway) → w ≡ midway e (shown m) → (r : Answered)
+      → Settled (settle w) r
       → Answers (dispatch e (shown m)) m r
   unfolding dispatch
   accept ok h w is r s =
       let t : Settled (settle (midway e (shown m))) r = subst (λ (x : Midway). Settled (settle x) r) is s in
       subst (λ (k : ℕ). Answers (dispatchAfter k e (shown m)) m r) (sym h)
-      (record { refusal = t .refusal; links = t .links; state = t .state; exact = t .exact ∙ sym (sound-stored m ok); kept = λ no. absurd (no (t .refusal)) })
+      (record {
+        refusal = t .refusal;
+        links = t .links;
+        state = t .state;
+        exact = t .exact
+            ∙ sym (sound-stored m ok);
+        kept = λ no. absurd (no (t .refusal));
+      })
 
 -- no choice
 pub stands : {m : Machine} {s : State} {r : Answered} → r ≡ record { machine = m; refusal = 0; links = 0 } → shown m ≡ s → stored m ≡ true
@@ -33,9 +42,11 @@ pub stands : {m : Machine} {s : State} {r : Answered} → r ≡ record { machine
 stands is e exact = rw is (record { refusal = refl; links = refl; state = e; exact = exact })
 
 -- a choice from the machine that shows this state
-pub chosen : (m : Machine) (links : ℕ) (s : State) (r : Answered) → shown m ≡ s → Chosen m links r → Settled (choose (record { state = s; links = links })) r
+pub chosen : (m : Machine) (links : ℕ) (s : State) (r : Answered) → shown m ≡ s → Chosen m links r
+    → Settled (choose (record { state = s; links = links })) r
 chosen m links s r e c = subst (λ (u : State). Settled (choose (record { state = u; links = links })) r) e c
 
 -- what a machine settles on, said of the state that it shows
-pub said-of : (f : State → Midway) (m : Machine) (s : State) (r : Answered) → shown m ≡ s → Settled (settle (f (shown m))) r → Settled (settle (f s)) r
+pub said-of : (f : State → Midway) (m : Machine) (s : State) (r : Answered) → shown m ≡ s → Settled (settle (f (shown m))) r
+    → Settled (settle (f s)) r
 said-of f m s r e c = subst (λ (u : State). Settled (settle (f u)) r) e c

@@ -63,7 +63,8 @@ looked s f t owner c h said v e at owns walks hold judged is =
 
 -- one look, by what it finds
 module _ (n links : ℕ) (s : State) where
-  pub looks-empty : topmostAt inQueue s ≡ none → record { state = withRunning Nothing s; links = links } ≡ chooseFrom (suc n) (record { state = s; links = links })
+  pub looks-empty : topmostAt inQueue s ≡ none → record { state = withRunning Nothing s; links = links } ≡ chooseFrom (suc n)
+      (record { state = s; links = links })
   unfolding chooseFrom
   looks-empty e = sym (ap (look (λ u. chooseFrom n u) links s) e)
 
@@ -78,7 +79,13 @@ module _ (n links : ℕ) (s : State) where
 -- the state that a machine shows, with this turn order
 abbrev pub stateOf : Machine → ℕ → List ℕ → State
 stateOf m live order =
-    record { threads = m .threads; slices = map sliceOf (m .timeslices); places = map placeOf (m .timeslices); order = take live order; running = m .running }
+    record {
+      threads = m .threads;
+      slices = map sliceOf (m .timeslices);
+      places = map placeOf (m .timeslices);
+      order = take live order;
+      running = m .running;
+    }
 
 -- timeslices at other places are as many
 pub as-many : (ts us : List Timeslice) (ps : List Place) → Replaced ts ps us → length us ≡ length ts
@@ -161,7 +168,8 @@ none-queued Waits t end = refl
 none-queued Stalls t end = refl
 
 -- the machine before the release that ends a look: the retry is made, or the timeslice is put aside
-pub record Unreleased (m : Machine) (live : ℕ) (order : List ℕ) (t : ℕ) (c : Chain) (v : Said) (n : Machine) (codes heights : List ℕ) : Type 0 where
+pub record Unreleased (m : Machine) (live : ℕ) (order : List ℕ) (t : ℕ) (c : Chain) (v : Said) (n : Machine) (codes heights : List ℕ) : Type
+    0 where
   pub others : n ≡ tablesTo (n .threads) (n .timeslices) m
   pub lives : liveThreads (n .threads) ≡ liveThreads (m .threads)
   pub size : length (n .threads) ≡ length (m .threads)
@@ -172,7 +180,8 @@ pub record Unreleased (m : Machine) (live : ℕ) (order : List ℕ) (t : ℕ) (c
 
 module _ (m : Machine) (live : ℕ) (order codes heights : List ℕ) (r : Coded (m .timeslices) order live codes heights) (t : ℕ) (c : Chain)
     (v : Said) (n : Machine) (after : List ℕ) where
-  pub unreleased-retry : v ≡ Retries → (ths : List Thread) → ths ≡ donate (c .helper) (c .end) (m .threads) → n ≡ tablesTo ths (m .timeslices) m
+  pub unreleased-retry : v ≡ Retries → (ths : List Thread) → ths ≡ donate (c .helper) (c .end) (m .threads)
+      → n ≡ tablesTo ths (m .timeslices) m
       → after ≡ codes → Unreleased m live order t c v n after heights
   unfolding retry
   unreleased-retry told ths e is kept =
@@ -186,7 +195,8 @@ module _ (m : Machine) (live : ℕ) (order codes heights : List ℕ) (r : Coded 
         next = λ go links. refl;
       })
 
-  pub unreleased-aside : OneOf (2 ∷ 3 ∷ []) (tagOf the-type v) → (p : Place) → p ≡ asideOf v (c .end) → Aside m live order t p n after heights
+  pub unreleased-aside : OneOf (2 ∷ 3 ∷ []) (tagOf the-type v) → (p : Place) → p ≡ asideOf v (c .end)
+      → Aside m live order t p n after heights
       → Unreleased m live order t c v n after heights
   unfolding park
   unreleased-aside which p is a =
@@ -209,7 +219,8 @@ module _ (m : Machine) (live : ℕ) (order codes heights : List ℕ) (r : Coded 
       }
 
 -- the loop, with so many looks left
-pub record Choosing (first : Machine) (start live lives : ℕ) (order : List ℕ) (m : Machine) (links looks : ℕ) (codes heights : List ℕ) : Type 0 where
+pub record Choosing (first : Machine) (start live lives : ℕ) (order : List ℕ) (m : Machine) (links looks : ℕ) (codes heights : List ℕ) :
+    Type 0 where
   pub exact : stored m ≡ true
   pub turns : m .order ≡ order
   pub turned : m .«live_timeslices» ≡ live
@@ -222,13 +233,15 @@ pub record Choosing (first : Machine) (start live lives : ℕ) (order : List ℕ
   pub few : links + 128 * looks ≤ 16768
   pub rest : chooseFrom looks (record { state = stateOf m live order; links = links }) ≡ choose (before first start)
 
-pub begin : (m : Machine) (links looks : ℕ) (codes heights : List ℕ) → Choosable m links → length (m .order) ≡ 128 → length (m .threads) ≡ 128 → length (m .timeslices) ≡ 128
+pub begin : (m : Machine) (links looks : ℕ) (codes heights : List ℕ) → Choosable m links → length (m .order) ≡ 128
+    → length (m .threads) ≡ 128 → length (m .timeslices) ≡ 128
     → looks ≡ m .«live_timeslices» + 2 → Coded (m .timeslices) (m .order) (m .«live_timeslices») codes heights
     → Choosing m links (m .«live_timeslices») (m .«live_threads») (m .order) m links looks codes heights
 unfolding choose
 begin m links looks codes heights c o ths ts e r =
     let fits = turns-fit m (c .exact) in
-    let two : looks ≡ suc (suc (length (take (m .«live_timeslices») (m .order)))) = rw (length-take-le (m .«live_timeslices») (m .order) (omega arith)) (omega arith) in
+    let two : looks ≡ suc (suc (length (take (m .«live_timeslices») (m .order)))) =
+    rw (length-take-le (m .«live_timeslices») (m .order) (omega arith)) (omega arith) in
     record {
       exact = c .exact;
       turns = refl;
@@ -243,26 +256,57 @@ begin m links looks codes heights c o ths ts e r =
       rest = ap (λ (k : ℕ). chooseFrom k (before m links)) two;
     }
 
-module _ (first : Machine) (start live lives : ℕ) (order : List ℕ) (m : Machine) (links looks : ℕ) (codes heights : List ℕ) (w : Choosing first start live lives order m links looks codes heights) where
+module _ (first : Machine) (start live lives : ℕ) (order : List ℕ) (m : Machine) (links looks : ℕ) (codes heights : List ℕ)
+    (w : Choosing first start live lives order m links looks codes heights) where
   -- L as the walk asks it
   pub lives-are : lives ≡ liveThreads (m .threads)
   lives-are = sym (w .counted) ∙ live-is m (w .exact)
 
   -- the timeslice of the highest height in Queue, whose code is 0
-  pub tops-queue : (f : Sought) → soughtOf f ≡ topOf order (highest 0 codes heights 0 (entriesOf live)) → soughtOf f ≡ topmostAt inQueue (stateOf m live order)
+  pub tops-queue : (f : Sought) → soughtOf f ≡ topOf order (highest 0 codes heights 0 (entriesOf live))
+      → soughtOf f ≡ topmostAt inQueue (stateOf m live order)
   tops-queue f e = e ∙ top-is (m .timeslices) order live codes heights (w .entries) (w .coded) Queue
 
-  shows : (r : Running) → shown (record { threads = m .threads; timeslices = m .timeslices; order = m .order; «live_threads» = m .«live_threads»; «live_timeslices» = m .«live_timeslices»; running = r })
+  shows : (r : Running)
+      → shown (record {
+        threads = m .threads;
+        timeslices = m .timeslices;
+        order = m .order;
+        «live_threads» = m .«live_threads»;
+        «live_timeslices» = m .«live_timeslices»;
+        running = r;
+      })
       ≡ withRunning r (stateOf m live order)
   shows r = rw (w .turns, w .turned) refl
 
-  running-exact : (r : Running) → stored (record { threads = m .threads; timeslices = m .timeslices; order = m .order; «live_threads» = m .«live_threads»; «live_timeslices» = m .«live_timeslices»; running = r })
+  running-exact : (r : Running)
+      → stored (record {
+        threads = m .threads;
+        timeslices = m .timeslices;
+        order = m .order;
+        «live_threads» = m .«live_threads»;
+        «live_timeslices» = m .«live_timeslices»;
+        running = r;
+      })
       ≡ true
   running-exact r = stored-with m (w .exact) _ refl refl (live-is m (w .exact))
 
   -- the choice ends with this running thread, or with none
-  pub ends : (r : Running) (k : ℕ) → record { state = withRunning r (stateOf m live order); links = k } ≡ chooseFrom looks (record { state = stateOf m live order; links = links })
-      → Chosen first start (record { machine = record { threads = m .threads; timeslices = m .timeslices; order = m .order; «live_threads» = m .«live_threads»; «live_timeslices» = m .«live_timeslices»; running = r }; refusal = 0; links = k })
+  pub ends : (r : Running) (k : ℕ) → record { state = withRunning r (stateOf m live order); links = k } ≡ chooseFrom looks
+      (record { state = stateOf m live order; links = links })
+      → Chosen first start (record {
+        machine = record {
+          threads = m .threads;
+          timeslices = m .timeslices;
+          order = m .order;
+          «live_threads» =
+              m .«live_threads»;
+          «live_timeslices» = m .«live_timeslices»;
+          running = r;
+        };
+        refusal = 0;
+        links = k;
+      })
   ends r k e =
       let o : record { state = withRunning r (stateOf m live order); links = k } ≡ choose (before first start) = e ∙ w .rest in
       record {
@@ -282,14 +326,18 @@ module _ (first : Machine) (start live lives : ℕ) (order : List ℕ) (m : Mach
   -- the next look, from a machine with the same turn order and live threads
   pub again : (n : Machine) (after : List ℕ) (k t : ℕ) (c : Chain) (v : Verdict) (s : State)
       → n .order ≡ m .order → n .«live_timeslices» ≡ m .«live_timeslices» → n .«live_threads» ≡ m .«live_threads»
-      → liveThreads (n .threads) ≡ liveThreads (m .threads) → length (n .threads) ≡ length (m .threads) → length (n .timeslices) ≡ length (m .timeslices)
-      → Coded (n .timeslices) order live after heights → 0 < looks → k ≡ links + c .links → Look (stateOf m live order) t c v → stateOf n live order ≡ s
-      → decide (λ u. chooseFrom (looks - 1) u) links (stateOf m live order) t c v ≡ chooseFrom (looks - 1) (record { state = s; links = links + c .links })
+      → liveThreads (n .threads) ≡ liveThreads (m .threads) → length (n .threads) ≡ length (m .threads) → length (n .timeslices) ≡ length
+      (m .timeslices)
+      → Coded (n .timeslices) order live after heights → 0 < looks → k ≡ links + c .links → Look (stateOf m live order) t c v → stateOf n
+      live order ≡ s
+      → decide (λ u. chooseFrom (looks - 1) u) links (stateOf m live order) t c v ≡ chooseFrom (looks - 1)
+      (record { state = s; links = links + c .links })
       → Choosing first start live lives order n k (looks - 1) after heights
   again n after k t c v s o tn ln lv lths lts r left e l shows′ step =
       let one : looks ≡ suc (looks - 1) = omega arith in
       let most : c .links ≤ 128 = rw (l .chain) (walk-links (m .threads) (ownerAt (map sliceOf (m .timeslices)) t) (w .threads)) in
-      let rest′ : chooseFrom (suc (looks - 1)) (record { state = stateOf m live order; links = links }) ≡ choose (before first start) = rw one at (w .rest) in
+      let rest′ : chooseFrom (suc (looks - 1)) (record { state = stateOf m live order; links = links }) ≡ choose (before first start) =
+      rw one at (w .rest) in
       record {
         exact = stored-with m (w .exact) n o tn (ln ∙ live-is m (w .exact) ∙ sym lv);
         turns = o ∙ w .turns;
@@ -306,20 +354,45 @@ module _ (first : Machine) (start live lives : ℕ) (order : List ℕ) (m : Mach
 
   -- the look's timeslice runs
   pub runs-at : (t k : ℕ) (c : Chain) → 0 < looks → k ≡ links + c .links → Look (stateOf m live order) t c runs
-      → Chosen first start (record { machine = record { threads = m .threads; timeslices = m .timeslices; order = m .order; «live_threads» = m .«live_threads»; «live_timeslices» = m .«live_timeslices»; running = Runs (c .end) t (c .count) }; refusal = 0; links = k })
+      → Chosen first start (record {
+        machine = record {
+          threads = m .threads;
+          timeslices = m .timeslices;
+          order = m .order;
+          «live_threads» =
+              m .«live_threads»;
+          «live_timeslices» = m .«live_timeslices»;
+          running = Runs (c .end) t (c .count);
+        };
+        refusal = 0;
+        links = k;
+      })
   runs-at t k c left e l =
       let one : looks ≡ suc (looks - 1) = omega arith in
       ends (Runs (c .end) t (c .count)) k (rw (e, one) (looks-at (looks - 1) links (stateOf m live order) t c runs l))
 
   -- Queue is empty
   pub runs-none : (f : Sought) → 0 < looks → soughtOf f ≡ topmostAt inQueue (stateOf m live order) → f ≡ None
-      → Chosen first start (record { machine = record { threads = m .threads; timeslices = m .timeslices; order = m .order; «live_threads» = m .«live_threads»; «live_timeslices» = m .«live_timeslices»; running = Nothing }; refusal = 0; links = links })
+      → Chosen first start (record {
+        machine = record {
+          threads = m .threads;
+          timeslices = m .timeslices;
+          order = m .order;
+          «live_threads» =
+              m .«live_threads»;
+          «live_timeslices» = m .«live_timeslices»;
+          running = Nothing;
+        };
+        refusal = 0;
+        links = links;
+      })
   runs-none f left e is =
       let one : looks ≡ suc (looks - 1) = omega arith in
       ends Nothing links (rw one (looks-empty (looks - 1) links (stateOf m live order) (sym e ∙ ap soughtOf is)))
 
   -- it does not run yet: a set is released, and the choice goes on
-  pub goes-on : (t k : ℕ) (c : Chain) (v : Said) (n : Machine) (coded after : List ℕ) (us : List Timeslice) → 0 < looks → k ≡ links + c .links
+  pub goes-on : (t k : ℕ) (c : Chain) (v : Said) (n : Machine) (coded after : List ℕ) (us : List Timeslice) → 0 < looks
+      → k ≡ links + c .links
       → Look (stateOf m live order) t c (verdictOf v) → Unreleased m live order t c v n coded heights
       → Freed (freedBy v t (c .end)) (n .timeslices) order live us after heights
       → Choosing first start live lives order (tablesTo (n .threads) us n) k (looks - 1) after heights
@@ -329,5 +402,7 @@ module _ (first : Machine) (start live lives : ℕ) (order : List ℕ) (m : Mach
       let shows : stateOf (tablesTo (n .threads) us n) live order ≡ release at s =
       replaced-shown n live order (placesAfter at (s .slices) (s .order) (s .places)) us (f .replaced) ∙ sym (release-is at s) in
       again (tablesTo (n .threads) us n) after k t c (verdictOf v) (release at s)
-      (ap (λ (o : Machine). o .order) (u .others)) (ap (λ (o : Machine). o .«live_timeslices») (u .others)) (ap (λ (o : Machine). o .«live_threads») (u .others))
-      (u .lives) (u .size) (as-many (n .timeslices) us _ (f .replaced) ∙ u .many) (f .coded) left e l shows (u .next (λ o. chooseFrom (looks - 1) o) links)
+      (ap (λ (o : Machine). o .order) (u .others)) (ap (λ (o : Machine). o .«live_timeslices») (u .others))
+      (ap (λ (o : Machine). o .«live_threads») (u .others))
+      (u .lives) (u .size) (as-many (n .timeslices) us _ (f .replaced) ∙ u .many) (f .coded) left e l shows
+      (u .next (λ o. chooseFrom (looks - 1) o) links)

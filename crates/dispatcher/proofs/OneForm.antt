@@ -59,7 +59,8 @@ one-form m n full full′ h h′ same =
     sym (length-take-le (m .«live_timeslices») (m .order) (omega (arith, full, turns-fit m h)))
     ∙ ap length front
     ∙ length-take-le (n .«live_timeslices») (n .order) (omega (arith, full′, turns-fit n h′)) in
-    let timeslices = same-timeslices (m .timeslices) (n .timeslices) (ap (λ (s : State). s .slices) same) (ap (λ (s : State). s .places) same) in
+    let timeslices = same-timeslices (m .timeslices) (n .timeslices) (ap (λ (s : State). s .slices) same)
+    (ap (λ (s : State). s .places) same) in
     let order = same-order m n h h′ full full′ live front in
     let counted : m .«live_threads» ≡ n .«live_threads» = live-is m h ∙ ap liveThreads threads ∙ sym (live-is n h′) in
     λ i. record {

@@ -40,7 +40,8 @@ as-offered : (e : Event) (m : Machine) → soundMachine m ≡ true → answerTo 
 as-offered e m h = ap (λ (b : Bool). events.offerIf b e (shown m)) h ∙ sym (offer-sound e (shown m) (sound-shown m h))
 
 -- DEMAND 1, of the code. An event offered to a sound machine hands back a sound machine.
-pub answered-sound : (e : Event) (m : Machine) (r : Answered) → fits e ≡ true → soundMachine m ≡ true → Answers (answerTo e m) m r → soundMachine (r .machine) ≡ true
+pub answered-sound : (e : Event) (m : Machine) (r : Answered) → fits e ≡ true → soundMachine m ≡ true → Answers (answerTo e m) m r
+    → soundMachine (r .machine) ≡ true
 unfolding soundMachine
 answered-sound e m r f h a =
     and-true-both (stored (r .machine)) (sound (shown (r .machine)))
@@ -48,12 +49,14 @@ answered-sound e m r f h a =
     (ap sound (a .state ∙ ap (λ (z : events.Answered). z .state) (as-offered e m h)) ∙ accepted-sound e (shown m) f (sound-shown m h))
 
 -- The same through the inner door, which does not test soundness: its answer is the definitions' on a sound machine.
-pub dispatched-sound : (e : Event) (m : Machine) (r : Answered) → fits e ≡ true → soundMachine m ≡ true → Answers (events.dispatch e (shown m)) m r → soundMachine (r .machine) ≡ true
+pub dispatched-sound : (e : Event) (m : Machine) (r : Answered) → fits e ≡ true → soundMachine m ≡ true
+    → Answers (events.dispatch e (shown m)) m r → soundMachine (r .machine) ≡ true
 dispatched-sound e m r f h a =
     answered-sound e m r f h (subst (λ (z : events.Answered). Answers z m r) (sym (ap (λ (b : Bool). events.offerIf b e (shown m)) h)) a)
 
 -- DEMAND 3, of the code. From every sound machine, what the answers show after each event is what the plain machine shows.
-seen-code : (e : Event) (m : Machine) (r : Answered) → soundMachine m ≡ true → Answers (answerTo e m) m r → codeSeen r ≡ seen (events.offer e (shown m))
+seen-code : (e : Event) (m : Machine) (r : Answered) → soundMachine m ≡ true → Answers (answerTo e m) m r
+    → codeSeen r ≡ seen (events.offer e (shown m))
 seen-code e m r h a =
     let o = as-offered e m h in
     let number = a .refusal ∙ ap (λ (z : events.Answered). z .refusal) o in

@@ -36,7 +36,8 @@ stayed b m r is e exact = rw (is, e) (record { refusal = refl; links = refl; sta
 pub over-nothing : (m : Machine) (q : ℕ) → m .running ≡ Nothing → overtakes (shown m) (some q) ≡ true
 over-nothing m q e = ap (aboveRunning (shown m) q) e
 
-pub over-running : (m : Machine) (q n t count : ℕ) (b b′ : Bool) → m .running ≡ Runs n t count → b ≡ standsAbove (shown m .slices) (shown m .order) q t → b ≡ b′
+pub over-running : (m : Machine) (q n t count : ℕ) (b b′ : Bool) → m .running ≡ Runs n t count
+    → b ≡ standsAbove (shown m .slices) (shown m .order) q t → b ≡ b′
     → overtakes (shown m) (some q) ≡ b′
 over-running m q n t count b b′ e is says = ap (aboveRunning (shown m) q) e ∙ sym is ∙ says
 
@@ -54,28 +55,46 @@ none-released n m f r so e is exact =
     rw (so, top) (record { refusal = refl; links = refl; state = refl; exact = exact })
 
 -- the topmost one joined Queue
-module _ (n : ℕ) (m : Machine) (f : Sought) (q : ℕ) (ts : List Timeslice) (e : soughtOf f ≡ topmostAt (onThread n) (shown m)) (is : f ≡ At q)
-    (r : Replaced (m .timeslices) (releasedPlaces (onThread n) q (take (m .«live_timeslices») (m .order)) (map placeOf (m .timeslices))) ts) where
-  abbrev freed : Machine
-  freed = record { threads = m .threads; timeslices = ts; order = m .order; «live_threads» = m .«live_threads»; «live_timeslices» = m .«live_timeslices»; running = m .running }
+module _ (n : ℕ) (m : Machine) (f : Sought) (q : ℕ) (ts : List Timeslice) (e : soughtOf f ≡ topmostAt (onThread n) (shown m))
+    (is : f ≡ At q)
+    (r : Replaced (m .timeslices) (releasedPlaces (onThread n) q (take (m .«live_timeslices») (m .order)) (map placeOf (m .timeslices))) ts)
+  where
+    abbrev freed : Machine
+    freed = record {
+      threads = m .threads;
+      timeslices = ts;
+      order = m .order;
+      «live_threads» = m .«live_threads»;
+      «live_timeslices» =
+          m .«live_timeslices»;
+      running = m .running;
+    }
 
-  top : topmostAt (onThread n) (shown m) ≡ some q
-  top = sym e ∙ ap soughtOf is
+    top : topmostAt (onThread n) (shown m) ≡ some q
+    top = sym e ∙ ap soughtOf is
 
-  shows : shown freed ≡ release (onThread n) (shown m)
-  unfolding release
-  shows =
-      let ss = r .slices in
-      let ps = r .places in
-      (λ i. record { threads = m .threads; slices = ss i; places = ps i; order = take (m .«live_timeslices») (m .order); running = m .running })
-      ∙ sym (ap (releaseTo (onThread n) (shown m)) top)
+    shows : shown freed ≡ release (onThread n) (shown m)
+    unfolding release
+    shows =
+        let ss = r .slices in
+        let ps = r .places in
+        (λ i. record {
+          threads = m .threads;
+          slices = ss i;
+          places = ps i;
+          order = take (m .«live_timeslices») (m .order);
+          running =
+              m .running;
+        })
+        ∙ sym (ap (releaseTo (onThread n) (shown m)) top)
 
-  pub freed-exact : Choosable m 0 → Choosable freed 0
-  freed-exact c = record { exact = stored-with m (c .exact) freed refl refl (live-is m (c .exact)); few = c .few }
+    pub freed-exact : Choosable m 0 → Choosable freed 0
+    freed-exact c = record { exact = stored-with m (c .exact) freed refl refl (live-is m (c .exact)); few = c .few }
 
-  pub one-released : (a : Answered) → Settled (settleIf (overtakes (shown freed) (some q)) (before freed 0)) a → Settled (settle (releases n (shown m))) a
-  unfolding releases
-  one-released a s =
-      let over : overtakes (shown freed) (some q) ≡ overtakes (shown m) (topmostAt (onThread n) (shown m)) =
-      over-same (shown freed) (shown m) q (m .running) (r .slices) refl ∙ ap (overtakes (shown m)) (sym top) in
-      subst (λ (o : Outcome). Settled o a) (ap₂ (λ b u. settleIf b (record { state = u; links = 0 })) over shows) s
+    pub one-released : (a : Answered) → Settled (settleIf (overtakes (shown freed) (some q)) (before freed 0)) a
+        → Settled (settle (releases n (shown m))) a
+    unfolding releases
+    one-released a s =
+        let over : overtakes (shown freed) (some q) ≡ overtakes (shown m) (topmostAt (onThread n) (shown m)) =
+        over-same (shown freed) (shown m) q (m .running) (r .slices) refl ∙ ap (overtakes (shown m)) (sym top) in
+        subst (λ (o : Outcome). Settled o a) (ap₂ (λ b u. settleIf b (record { state = u; links = 0 })) over shows) s

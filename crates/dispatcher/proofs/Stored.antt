@@ -8,7 +8,8 @@ use borrow.Author.Tests.{eqb-true, leb-true, eq-eqb, le-ltb, le-leb, ltb-false}
 use Rattle.rules.specs.Tests.{below}
 use Rattle.rules.specs.State.{limit, liveThreads}
 use Rattle.rules.specs.Sound.{sound}
-use Rattle.rules.proofs.Basics.Views.{Two, yes-true, no-false, two, and-true-left, and-true-right, and-true-both, or-true-left, or-true-right, and3}
+use Rattle.rules.proofs.Basics.Views.{Two, yes-true, no-false, two, and-true-left, and-true-right, and-true-both, or-true-left}
+use Rattle.rules.proofs.Basics.Views.{or-true-right, and3}
 use Rattle.rules.proofs.Basics.Members.{below-at, below-of}
 use Rattle.soundness.specs.Parts.{entryFree}
 use Rattle.dispatcher.specs.declared.Machine.{Machine}
@@ -53,7 +54,8 @@ module _ (m : Machine) (e : stored m ≡ true) where
       → n .«live_threads» ≡ liveThreads (n .threads) → stored n ≡ true
   unfolding stored
   stored-with n o t l =
-      and-true-both _ _ (and-true-both _ _ (eq-eqb (n .«live_threads») (liveThreads (n .threads)) l) (rw t (clauses .1))) (rw (o, t) (clauses .2))
+      and-true-both _ _ (and-true-both _ _ (eq-eqb (n .«live_threads») (liveThreads (n .threads)) l) (rw t (clauses .1)))
+      (rw (o, t) (clauses .2))
 
 -- and that is all there is to it
 pub stored-of : (n : Machine) → n .«live_threads» ≡ liveThreads (n .threads) → n .«live_timeslices» ≤ 128

@@ -25,12 +25,21 @@ use Rattle.dispatcher.proofs.Stored.{live-is, stored-with}
 -- other threads, with the same L
 abbrev pub threadsTo : List Thread → Machine → Machine
 threadsTo ths m =
-    record { threads = ths; timeslices = m .timeslices; order = m .order; «live_threads» = m .«live_threads»; «live_timeslices» = m .«live_timeslices»; running = m .running }
+    record {
+      threads = ths;
+      timeslices = m .timeslices;
+      order = m .order;
+      «live_threads» = m .«live_threads»;
+      «live_timeslices» =
+          m .«live_timeslices»;
+      running = m .running;
+    }
 
 pub threads-shown : (m : Machine) (ths ths′ : List Thread) → ths ≡ ths′ → shown (threadsTo ths m) ≡ withThreads ths′ (shown m)
 threads-shown m ths ths′ e = ap (λ (l : List Thread). withThreads l (shown m)) e
 
-pub threads-exact : (m : Machine) (ths ths′ : List Thread) → stored m ≡ true → ths ≡ ths′ → liveThreads ths′ ≡ liveThreads (m .threads) → stored (threadsTo ths m) ≡ true
+pub threads-exact : (m : Machine) (ths ths′ : List Thread) → stored m ≡ true → ths ≡ ths′ → liveThreads ths′ ≡ liveThreads (m .threads)
+    → stored (threadsTo ths m) ≡ true
 threads-exact m ths ths′ ok e l = stored-with m ok (threadsTo ths m) refl refl (live-is m ok ∙ sym l ∙ sym (ap liveThreads e))
 
 -- a new thread
@@ -68,24 +77,36 @@ choosable m ok = record { exact = ok; few = omega arith }
 -- the server runs, after a donation to it
 abbrev pub runningTo : List Thread → Running → Machine → Machine
 runningTo ths r m =
-    record { threads = ths; timeslices = m .timeslices; order = m .order; «live_threads» = m .«live_threads»; «live_timeslices» = m .«live_timeslices»; running = r }
+    record {
+      threads = ths;
+      timeslices = m .timeslices;
+      order = m .order;
+      «live_threads» = m .«live_threads»;
+      «live_timeslices» =
+          m .«live_timeslices»;
+      running = r;
+    }
 
-pub running-shown : (m : Machine) (ths ths′ : List Thread) (r : Running) → ths ≡ ths′ → shown (runningTo ths r m) ≡ withRunning r (withThreads ths′ (shown m))
+pub running-shown : (m : Machine) (ths ths′ : List Thread) (r : Running) → ths ≡ ths′
+    → shown (runningTo ths r m) ≡ withRunning r (withThreads ths′ (shown m))
 running-shown m ths ths′ r e = ap (λ (l : List Thread). withRunning r (withThreads l (shown m))) e
 
-pub running-exact : (m : Machine) (ths ths′ : List Thread) (r : Running) → stored m ≡ true → ths ≡ ths′ → liveThreads ths′ ≡ liveThreads (m .threads)
+pub running-exact : (m : Machine) (ths ths′ : List Thread) (r : Running) → stored m ≡ true → ths ≡ ths′
+    → liveThreads ths′ ≡ liveThreads (m .threads)
     → stored (runningTo ths r m) ≡ true
 running-exact m ths ths′ r ok e l = stored-with m ok (runningTo ths r m) refl refl (live-is m ok ∙ sym l ∙ sym (ap liveThreads e))
 
 -- a call, by the server's hold
-pub call-idle : (server caller t count : ℕ) (s : State) (h : Hold) → isIdle h ≡ true → callDonates server caller t count s ≡ callAt server caller t count s h
+pub call-idle : (server caller t count : ℕ) (s : State) (h : Hold) → isIdle h ≡ true
+    → callDonates server caller t count s ≡ callAt server caller t count s h
 call-idle server caller t count s Ready e = let z : _≡_ {A = ℕ} 0 1 = cc in absurd (omega arith)
 call-idle server caller t count s Idle e = refl
 call-idle server caller t count s Blocked e = let z : _≡_ {A = ℕ} 0 1 = cc in absurd (omega arith)
 call-idle server caller t count s (Calling n) e = let z : _≡_ {A = ℕ} 0 1 = cc in absurd (omega arith)
 call-idle server caller t count s (Helping n) e = let z : _≡_ {A = ℕ} 0 1 = cc in absurd (omega arith)
 
-pub call-busy : (server caller t count : ℕ) (s : State) (h : Hold) → isIdle h ≡ false → callHelps server caller s ≡ callAt server caller t count s h
+pub call-busy : (server caller t count : ℕ) (s : State) (h : Hold) → isIdle h ≡ false
+    → callHelps server caller s ≡ callAt server caller t count s h
 call-busy server caller t count s Ready e = refl
 call-busy server caller t count s Idle e = let z : _≡_ {A = ℕ} 0 1 = cc in absurd (omega arith)
 call-busy server caller t count s Blocked e = refl

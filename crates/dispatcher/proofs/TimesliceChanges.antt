@@ -68,7 +68,14 @@ module _ (m : Machine) (j i t n p q : ℕ) (at : j ≡ t) (end : i ≡ m .«live
 -- what is left of a timeslice
 module _ (ts : List Timeslice) (k t l : ℕ) (at : k ≡ t) where
   abbrev pub spent : Timeslice
-  spent = let x = getD ts k freeTimeslice in record { owner = x .owner; priority = x .priority; quantum = x .quantum; left = l; place = x .place }
+  spent = let x = getD ts k freeTimeslice in record {
+    owner = x .owner;
+    priority = x .priority;
+    quantum = x .quantum;
+    left = l;
+    place =
+        x .place;
+  }
 
   pub left-slices : map sliceOf (set ts k spent) ≡ setLeft t l (map sliceOf ts)
   unfolding setLeft
@@ -83,10 +90,18 @@ module _ (ts : List Timeslice) (k t l : ℕ) (at : k ≡ t) where
 -- a machine with other threads, timeslices and turn order
 abbrev pub movedTo : List Thread → List Timeslice → List ℕ → Machine → Machine
 movedTo ths ts order m =
-    record { threads = ths; timeslices = ts; order = order; «live_threads» = m .«live_threads»; «live_timeslices» = m .«live_timeslices»; running = m .running }
+    record {
+      threads = ths;
+      timeslices = ts;
+      order = order;
+      «live_threads» = m .«live_threads»;
+      «live_timeslices» = m .«live_timeslices»;
+      running = m .running;
+    }
 
 -- a release, after other threads, timeslices and another turn order
-pub released-shown : (m : Machine) (at : Place → Bool) (ths ths′ : List Thread) (ts free : List Timeslice) (ss : List Slice) (turns : List ℕ) (order : List ℕ)
+pub released-shown : (m : Machine) (at : Place → Bool) (ths ths′ : List Thread) (ts free : List Timeslice) (ss : List Slice)
+    (turns : List ℕ) (order : List ℕ)
     → ths ≡ ths′ → map sliceOf ts ≡ ss → map placeOf ts ≡ map placeOf (m .timeslices) → take (m .«live_timeslices») turns ≡ order
     → Replaced ts (placesAfter at (map sliceOf ts) (take (m .«live_timeslices») turns) (map placeOf ts)) free
     → shown (movedTo ths free turns m)
@@ -100,24 +115,31 @@ released-shown m at ths ths′ ts free ss turns order e s p o r =
     ∙ sym (release-is at (withTimeslices ss order (withThreads ths′ (shown m))))
 
 -- the turn order after a move to its back is stored
-pub turned-exact : (m : Machine) (t : ℕ) (back : List ℕ) (ts : List Timeslice) → stored m ≡ true → Turned t (m .«live_timeslices») (m .order) back
+pub turned-exact : (m : Machine) (t : ℕ) (back : List ℕ) (ts : List Timeslice) → stored m ≡ true
+    → Turned t (m .«live_timeslices») (m .order) back
     → stored (movedTo (m .threads) ts back m) ≡ true
 turned-exact m t back ts ok d =
     stored-of _ (live-is m ok) (turns-fit m ok) (λ k past fits. d .free k (omega arith) ∙ free-zero m ok k past fits)
 
 -- an abort, by what its walk came to
 pub aborts : (m : Machine) (n : ℕ) (c : Chain) (k : ℕ) (m′ : Machine) (r : Answered) → c ≡ walk (m .threads) n → k ≡ c .links
-    → shown m′ ≡ releaseAbort (c .looped) (isBlocked (holdAt (m .threads) (c .end))) (c .end) (withThreads (aborted n (m .threads)) (shown m))
+    → shown m′ ≡ releaseAbort (c .looped) (isBlocked (holdAt (m .threads) (c .end))) (c .end)
+    (withThreads (aborted n (m .threads)) (shown m))
     → Chosen m′ k r → Settled (settle (abort n (shown m))) r
 unfolding abort abortAfter
 aborts m n c k m′ r is e shows ch =
     subst (λ (o : Outcome). Settled (choose o) r)
     (ap₂ (λ s l. record { state = s; links = l }) shows e
-    ∙ ap (λ (d : Chain). record { state = releaseAbort (d .looped) (isBlocked (holdAt (m .threads) (d .end))) (d .end) (withThreads (aborted n (m .threads)) (shown m)); links = d .links }) is)
+    ∙ ap (λ (d : Chain). record {
+      state = releaseAbort (d .looped) (isBlocked (holdAt (m .threads) (d .end))) (d .end)
+          (withThreads (aborted n (m .threads)) (shown m));
+      links = d .links;
+    }) is)
     ch
 
 -- the choice after a give
-pub given-to : (t : ℕ) (m : Machine) (s : State) (r : Answered) → shown m ≡ s → Settled (settleIf (overtakes (shown m) (some t)) (before m 0)) r
+pub given-to : (t : ℕ) (m : Machine) (s : State) (r : Answered) → shown m ≡ s
+    → Settled (settleIf (overtakes (shown m) (some t)) (before m 0)) r
     → Settled (settleIf (overtakes s (some t)) (record { state = s; links = 0 })) r
 given-to t m s r e h = subst (λ (u : State). Settled (settleIf (overtakes u (some t)) (record { state = u; links = 0 })) r) e h
 
@@ -131,13 +153,15 @@ quantum-at ts k t at = ap (λ (x : Slice). x .quantum) (slice-at ts t) ∙ sym (
 pub refills : (ts : List Timeslice) (k t : ℕ) (at : k ≡ t)
     → map sliceOf (set ts k (spent ts k t (getD ts k freeTimeslice .quantum) at)) ≡ refilled t (map sliceOf ts)
 unfolding refilled
-refills ts k t at = left-slices ts k t (getD ts k freeTimeslice .quantum) at ∙ ap (λ (l : ℕ). setLeft t l (map sliceOf ts)) (sym (quantum-at ts k t at))
+refills ts k t at = left-slices ts k t (getD ts k freeTimeslice .quantum) at
+    ∙ ap (λ (l : ℕ). setLeft t l (map sliceOf ts)) (sym (quantum-at ts k t at))
 
 pub charges : (ts : List Timeslice) (k t units : ℕ) (at : k ≡ t)
     → map sliceOf (set ts k (spent ts k t (getD ts k freeTimeslice .left - units) at)) ≡ charged t units (map sliceOf ts)
 unfolding charged
 charges ts k t units at =
-    left-slices ts k t (getD ts k freeTimeslice .left - units) at ∙ ap (λ (l : ℕ). setLeft t (l - units) (map sliceOf ts)) (sym (left-at ts k t at))
+    left-slices ts k t (getD ts k freeTimeslice .left - units) at
+    ∙ ap (λ (l : ℕ). setLeft t (l - units) (map sliceOf ts)) (sym (left-at ts k t at))
 
 -- a charge, by what is left
 module _ (m : Machine) (n t count units k : ℕ) (run : m .running ≡ Runs n t count) (at : k ≡ t) where
@@ -150,5 +174,6 @@ module _ (m : Machine) (n t count units k : ℕ) (run : m .running ≡ Runs n t 
   pub charge-left : (getD (m .timeslices) k freeTimeslice .left ≡ units → ⊥) → spends t units (shown m) ≡ charge units (shown m)
   unfolding charge
   charge-left e =
-      let other : eqb (sliceAt (map sliceOf (m .timeslices)) t .left) units ≡ false = ne-eqb _ _ (λ q. e (sym (left-at (m .timeslices) k t at) ∙ q)) in
+      let other : eqb (sliceAt (map sliceOf (m .timeslices)) t .left) units ≡ false =
+      ne-eqb _ _ (λ q. e (sym (left-at (m .timeslices) k t at) ∙ q)) in
       sym (ap (chargeBy units (shown m)) run ∙ ap (λ (b : Bool). cond b (depletes t (shown m)) (spends t units (shown m))) other)

@@ -1,5 +1,5 @@
-// The events offered to any machine: an unsound one is refused with 1, and a sound one goes through the inner door. `offer` takes any event;
-// each kind has its method too.
+// The events offered to any machine: an unsound one is refused with 1, and a sound one goes through the inner door. `offer` takes any
+// event; each kind has its method too.
 ghost use Rattle.rules.specs.declared.Event.the-variants.{Create, Give, Call, Reply, Block, Wake, Charge, Abort};
 ghost use Rattle.rules.specs.Events.{offerIf};
 ghost use Rattle.dispatcher.specs.Shown.{shown, soundMachine};

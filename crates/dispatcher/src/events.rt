@@ -18,8 +18,8 @@ mod reply;
 mod wake;
 
 impl Machine {
-    // It does not test soundness, which costs far more than an event: a list is tested once, at its beginning, and stays sound from event to
-    // event. So it asks for a sound machine, and the checker refuses a caller that does not show it one.
+    // It does not test soundness, which costs far more than an event: a list is tested once, at its beginning, and stays sound from event
+    // to event. So it asks for a sound machine, and the checker refuses a caller that does not show it one.
     pub fn dispatch(self, e: Event) -> Answered
         requires { ⌜ soundMachine self ≡ true ⌝ }
         ensures { λ r. ⌜ Answers (dispatch e (shown self)) self r ⌝ }

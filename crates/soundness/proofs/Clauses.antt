@@ -61,7 +61,8 @@ pub both-test : (r a b x y : Bool) → r ≡ (a && b) → a ≡ x → b ≡ y �
 both-test r a b x y e l m = e ∙ ap₂ _&&_ l m
 
 -- the chain of a timeslice read where it stands
-pub chain-is : (most : ℕ) (threads : List Thread) (ts : List Timeslice) (t : ℕ) (x : Timeslice) (chain : Chain) → x ≡ getD ts t freeTimeslice
+pub chain-is : (most : ℕ) (threads : List Thread) (ts : List Timeslice) (t : ℕ) (x : Timeslice) (chain : Chain)
+    → x ≡ getD ts t freeTimeslice
     → chain ≡ walkFrom most threads (x .owner) noLinks
     → chain ≡ chainWithin most threads ts t
 chain-is most threads ts t x chain e w =
@@ -78,7 +79,8 @@ pub place-is : (threads : List Thread) (ts : List Timeslice) (order : List ℕ) 
     → x ≡ getD ts t freeTimeslice → x .place ≡ p
     → placeGood (partsOf threads ts order live Nothing) t (chainWithin most threads ts t) p ≡ placeTest threads ts order most live t
 place-is threads ts order most live t x p e told =
-    ap (placeGood (partsOf threads ts order live Nothing) t (chainWithin most threads ts t)) (sym told ∙ place-test (λ (q : Place). q) ts t x e)
+    ap (placeGood (partsOf threads ts order live Nothing) t (chainWithin most threads ts t))
+    (sym told ∙ place-test (λ (q : Place). q) ts t x e)
 
 -- the topmost in Queue is the current timeslice
 pub current-is : (threads : List Thread) (c : Chain) (q n t count : ℕ) (now : Running) (r : Bool) → now ≡ Runs n t count → t ≡ q

@@ -146,7 +146,8 @@ module _ (f : ℕ → ℕ) (l : List ℕ) (long : length l ≡ 128) where
       let front = map f (take (entriesOf live) l) in
       let rest : List ℕ = replicate (128 - entriesOf live) 0 in
       let many = mapped-length (entriesOf live) (omega arith) in
-      let full : length to ≡ 128 = ap length e ∙ length-append front rest ∙ omega (arith, many, length-replicate {A = ℕ} (128 - entriesOf live) 0) in
+      let full : length to ≡ 128 = ap length e ∙ length-append front rest
+      ∙ omega (arith, many, length-replicate {A = ℕ} (128 - entriesOf live) 0) in
       take-entries to live full
       ∙ ap (take (entriesOf live)) e
       ∙ take-at front rest (entriesOf live) many

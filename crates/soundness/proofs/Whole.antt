@@ -18,12 +18,14 @@ use Rattle.rules.specs.Tests.{member, distinct, all, below}
 use Rattle.rules.specs.State.{State, Plain, forget, limit, threadAt, holdAt, serviceAt, liveAt, ownerAt, sliceAt, placeAt, liveThreads}
 use Rattle.rules.specs.Walk.{walk, walkFrom, chainOf, noLinks}
 use Rattle.rules.specs.Release.{inQueue, topmostAt}
-use Rattle.rules.specs.Sound.{callIsServed, servedIsCalling, linkGood, idleGood, threadFree, sliceFree, inRange, placeGood, tablesFull, ownersLive, shaped, placed, settledOn, settled, sound}
+use Rattle.rules.specs.Sound.{callIsServed, servedIsCalling, linkGood, idleGood, threadFree, sliceFree, inRange, placeGood, tablesFull}
+use Rattle.rules.specs.Sound.{ownersLive, shaped, placed, settledOn, settled, sound}
 use Rattle.rules.proofs.Basics.Views.{and-true-left, and-true-right, and-true-both, and3, and4, and5}
 use Rattle.rules.proofs.Basics.Members.{all-at, all-of, below-at, below-of}
 use Rattle.rules.proofs.Soundness.Shapes.{Clauses, clauses, from-clauses}
 use Rattle.tables.specs.Timeslices.{sliceOf, placeOf}
-use Rattle.soundness.specs.Parts.{partsOf, entryFree, storedParts, soundParts, threadTest, slotTest, numberTest, chainWithin, placeTest, turnTest, settledBy, settledWithin}
+use Rattle.soundness.specs.Parts.{partsOf, entryFree, storedParts, soundParts, threadTest, slotTest, numberTest, chainWithin}
+use Rattle.soundness.specs.Parts.{placeTest, turnTest, settledBy, settledWithin}
 
 -- two tests that imply each other are the same
 same-test : (a b : Bool) → (a ≡ true → b ≡ true) → (b ≡ true → a ≡ true) → a ≡ b
@@ -40,7 +42,8 @@ place-running threads ts order live now t c (On n) = refl
 place-running threads ts order live now t c Stalled = refl
 
 -- what settles a state, whichever way it is asked
-settled-on : (s : State) (o : Option ℕ) (now : Running) → settledBy (s .threads) (λ q. chainOf (s .threads) (s .slices) q) now o ≡ settledOn s o now
+settled-on : (s : State) (o : Option ℕ) (now : Running)
+    → settledBy (s .threads) (λ q. chainOf (s .threads) (s .slices) q) now o ≡ settledOn s o now
 settled-on s none Nothing = refl
 settled-on s none (Runs n t count) = refl
 settled-on s (some q) Nothing = refl
@@ -67,7 +70,8 @@ module _ (threads : List Thread) (ts : List Timeslice) (order : List ℕ) (lives
   places = all (λ t. turnTest threads ts order lives live t) turns
 
   abbrev pub joined : Bool
-  joined = counted && leb live limit && numbers && places && distinct turns && distinct owners && settledWithin lives threads ts order live now
+  joined = counted && leb live limit && numbers && places && distinct turns && distinct owners && settledWithin lives threads ts order live
+      now
 
   -- one clause of one number or timeslice
   abbrev calling : ℕ → Bool
@@ -129,7 +133,8 @@ module _ (threads : List Thread) (ts : List Timeslice) (order : List ℕ) (lives
         let x = and5 (counted && leb live limit && numbers) places (distinct turns) (distinct owners) settling e in
         let y = and3 counted (leb live limit) numbers (x .0) in
         let lived = eqb-true lives (liveThreads threads) (y .0) in
-        let number : (n : ℕ) → n < limit → (entryFree order live n ≡ true) × (threadTest threads n ≡ true) × (slotTest ts order live n ≡ true) =
+        let number : (n : ℕ) → n < limit → (entryFree order live n ≡ true) × (threadTest threads n ≡ true) ×
+        (slotTest ts order live n ≡ true) =
         λ n h. and3 (entryFree order live n) (threadTest threads n) (slotTest ts order live n)
         (below-at (λ k. numberTest threads ts order live k) limit (y .2) n h) in
         let thread : (n : ℕ) → n < limit → (calling n ≡ true) × (linking n ≡ true) × (idling n ≡ true) × (freed n ≡ true) =
@@ -164,7 +169,8 @@ module _ (threads : List Thread) (ts : List Timeslice) (order : List ℕ) (lives
     unfolding soundParts sound placed
     from-sound e =
         let stored =
-        and3 counted (leb live limit) (below limit (λ i. entryFree order live i)) (and-true-left (storedParts threads order lives live) (sound s) e) in
+        and3 counted (leb live limit) (below limit (λ i. entryFree order live i))
+        (and-true-left (storedParts threads order lives live) (sound s) e) in
         let lived = eqb-true lives (liveThreads threads) (stored .0) in
         let room = eqb (length (map placeOf ts)) limit in
         let held = room && all truly turns && below limit unplaced in
@@ -183,7 +189,8 @@ module _ (threads : List Thread) (ts : List Timeslice) (order : List ℕ) (lives
         (below-at unplaced limit (put .2) t h) in
         let number : (n : ℕ) → n < limit → numberTest threads ts order live n ≡ true =
         λ n h. and-true-both (entryFree order live n && threadTest threads n) (slotTest ts order live n)
-        (and-true-both (entryFree order live n) (threadTest threads n) (below-at (λ i. entryFree order live i) limit (stored .2) n h) (thread n h))
+        (and-true-both (entryFree order live n) (threadTest threads n) (below-at (λ i. entryFree order live i) limit (stored .2) n h)
+        (thread n h))
         (slot n h) in
         let turn : (t : ℕ) → member t turns ≡ true → turnTest threads ts order lives live t ≡ true =
         λ t h. and-true-both (numbered t && owned t && ranged t) (placeTest threads ts order lives live t)
@@ -194,7 +201,8 @@ module _ (threads : List Thread) (ts : List Timeslice) (order : List ℕ) (lives
         (all-at ranged turns (shape .ranges) t h))
         (place-tests lived t ∙ all-at truly turns (put .1) t h) in
         let counts = and-true-both counted (leb live limit) (stored .0) (stored .1) in
-        let all-numbers = and-true-both (counted && leb live limit) numbers counts (below-of (λ n. numberTest threads ts order live n) limit number) in
+        let all-numbers = and-true-both (counted && leb live limit) numbers counts
+        (below-of (λ n. numberTest threads ts order live n) limit number) in
         let all-turns = and-true-both _ places all-numbers (all-of (λ t. turnTest threads ts order lives live t) turns turn) in
         let once = and-true-both _ (distinct turns) all-turns (and-true-right (all numbered turns) (distinct turns) (shape .turns)) in
         let apart = and-true-both _ (distinct owners) once (and-true-right (all owned turns) (distinct owners) (shape .owners)) in

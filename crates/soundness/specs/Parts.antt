@@ -29,6 +29,10 @@ partsOf threads timeslices order live running =
       running = running;
     }
 
+-- the owners of these timeslices
+abbrev pub ownersIn : List Timeslice → List ℕ → List ℕ
+ownersIn timeslices listed = map (λ t. ownerAt (map sliceOf timeslices) t) listed
+
 -- a free entry of the turn order holds 0
 abbrev pub entryFree : List ℕ → ℕ → ℕ → Bool
 entryFree order live i = ltb i live || eqb (getD order i 0) 0

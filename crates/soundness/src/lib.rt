@@ -1,5 +1,5 @@
-// Document 01, "A sound machine": the test over the parts of a stored machine. Each clause has its module; each_number and each_turn go once
-// through the slots and once along the turn order, and ask every clause there.
+// Document 01, "A sound machine": the test over the parts of a stored machine. Each clause has its module; each_number goes once through
+// the slots and each_turn once along the turn order, and ask every clause there.
 ghost use mathlib.Core.Path.{_≡_};
 ghost use Rattle.soundness.specs.Parts.{soundParts};
 

@@ -1,12 +1,11 @@
 // Document 01, "A sound machine": owners are distinct. (That they are live is asked of every timeslice of the turn order.)
 ghost use mathlib.Core.Path.{_≡_};
-ghost use mathlib.Core.List.{map, _++_};
+ghost use mathlib.Core.List.{_++_};
 ghost use Prim.Native.Nat.{_-_};
 ghost use lib.ListN.{take, replicate};
 ghost use Rattle.rules.specs.Tests.{distinct};
-ghost use Rattle.rules.specs.State.{ownerAt};
+ghost use Rattle.soundness.specs.Parts.{ownersIn};
 ghost use Rattle.tables.specs.Turning.{entriesOf};
-ghost use Rattle.tables.specs.Timeslices.{sliceOf};
 use crate::turn_order::listed_once;
 use rules::Timeslice;
 use tables::lookup::timeslice_at;
@@ -14,7 +13,7 @@ use tables::numbers::entries;
 
 // The owners in turn order, then 0.
 pub(crate) fn owners(timeslices: [Timeslice; 128], order: [u8; 128], live: u8) -> [u8; 128]
-    ensures { λ r. ⌜ r ≡ map (λ t. ownerAt (map sliceOf timeslices) t) (take (entriesOf live) order) ++ replicate (128 - entriesOf live) 0 ⌝ }
+    ensures { λ r. ⌜ r ≡ ownersIn timeslices (take (entriesOf live) order) ++ replicate (128 - entriesOf live) 0 ⌝ }
 {
     let mut listed: [u8; 128] = [0; 128];
     let n = entries(live);
@@ -30,7 +29,7 @@ pub(crate) fn owners(timeslices: [Timeslice; 128], order: [u8; 128], live: u8) -
 }
 
 pub(crate) fn owners_apart(timeslices: [Timeslice; 128], order: [u8; 128], live: u8) -> bool
-    ensures { λ r. ⌜ r ≡ distinct (map (λ t. ownerAt (map sliceOf timeslices) t) (take live order)) ⌝ }
+    ensures { λ r. ⌜ r ≡ distinct (ownersIn timeslices (take live order)) ⌝ }
 {
     let listed = owners(timeslices, order, live);
     listed_once(listed, live)

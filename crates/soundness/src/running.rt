@@ -1,5 +1,5 @@
-// Document 01, "A sound machine": "Nothing runs exactly when Queue is empty. Otherwise the current is the topmost in Queue and its walk ends,
-// Ready, at the running thread, with the stored count."
+// Document 01, "A sound machine": "Nothing runs exactly when Queue is empty. Otherwise the current is the topmost in Queue and its walk
+// ends, Ready, at the running thread, with the stored count."
 ghost use mathlib.Core.Path.{_≡_};
 ghost use Rattle.rules.specs.State.{nothingRuns};
 ghost use Rattle.soundness.specs.Parts.{chainWithin, runsOn, settledWithin};

@@ -12,7 +12,8 @@ use Rattle.rules.specs.declared.Service.the-variants.{Nobody, Serving, Orphan}
 use Rattle.rules.specs.declared.Role.{Role}
 use Rattle.rules.specs.declared.Thread.{Thread}
 use Rattle.rules.specs.State.{threadAt, liveThreads, oneMoreIf}
-use Rattle.rules.specs.Threads.{setHold, setService, withHold, withService, startsAs, created, donate, freeCaller, replied, orphanServer, aborted}
+use Rattle.rules.specs.Threads.{setHold, setService, withHold, withService, startsAs, created, donate, freeCaller, replied, orphanServer}
+use Rattle.rules.specs.Threads.{aborted}
 
 -- every thread below L is stored, so L fits its byte
 pub live-most : (ts : List Thread) → liveThreads ts ≤ length ts
@@ -60,13 +61,15 @@ pub one-more : (b : Bool) (n : ℕ) → oneMoreIf b (suc n) ≡ suc (oneMoreIf b
 one-more true n = refl
 one-more false n = refl
 
-live-more : (ts : List Thread) (n : ℕ) (a : Thread) → n < length ts → a .live ≡ true → threadAt ts n .live ≡ false → liveThreads (set ts n a) ≡ suc (liveThreads ts)
+live-more : (ts : List Thread) (n : ℕ) (a : Thread) → n < length ts → a .live ≡ true → threadAt ts n .live ≡ false
+    → liveThreads (set ts n a) ≡ suc (liveThreads ts)
 unfolding liveThreads
 live-more [] n a h l e = absurd (omega arith)
 live-more (t ∷ ts) ℕ.zero a h l e = rw (l, e) refl
 live-more (t ∷ ts) (ℕ.suc n) a h l e = ap (oneMoreIf (t .live)) (live-more ts n a (omega arith) l e) ∙ one-more (t .live) (liveThreads ts)
 
-pub live-created : (n : ℕ) (r : Role) (ts : List Thread) → n < length ts → threadAt ts n .live ≡ false → liveThreads (created n r ts) ≡ suc (liveThreads ts)
+pub live-created : (n : ℕ) (r : Role) (ts : List Thread) → n < length ts → threadAt ts n .live ≡ false
+    → liveThreads (created n r ts) ≡ suc (liveThreads ts)
 unfolding created
 live-created n r ts short e = live-more ts n (record { live = true; role = r; hold = startsAs r; service = Nobody }) short refl e
 

@@ -65,7 +65,8 @@ owns ts k t owner e is =
     is ∙ ap (λ (u : ℕ). getD ts u freeTimeslice .owner) e ∙ sym (ap (λ (s : Slice). s .owner) (slice-at ts t))
 
 pub owns-none : (ts : List Timeslice) (k t owner : ℕ) → length ts ≡ 128 → k ≡ t → 128 ≤ k → owner ≡ 0 → owner ≡ ownerAt (map sliceOf ts) t
-owns-none ts k t owner full e out is = owns ts k t owner e (is ∙ sym (ap (λ (x : Timeslice). x .owner) (past ts k k freeTimeslice full refl out)))
+owns-none ts k t owner full e out is = owns ts k t owner e
+    (is ∙ sym (ap (λ (x : Timeslice). x .owner) (past ts k k freeTimeslice full refl out)))
 
 -- the hold of thread n likewise
 pub held : (ts : List Thread) (k n : ℕ) (h : Hold) → k ≡ n → h ≡ getD ts k freeThread .hold → h ≡ holdAt ts n
@@ -80,4 +81,5 @@ priority-is ts k t p e is =
     is ∙ ap (λ (u : ℕ). getD ts u freeTimeslice .priority) e ∙ sym (ap (λ (s : Slice). s .priority) (slice-at ts t))
 
 pub priority-none : (ts : List Timeslice) (k t p : ℕ) → length ts ≡ 128 → k ≡ t → 128 ≤ k → p ≡ 0 → p ≡ priorityAt (map sliceOf ts) t
-priority-none ts k t p full e out is = priority-is ts k t p e (is ∙ sym (ap (λ (x : Timeslice). x .priority) (past ts k k freeTimeslice full refl out)))
+priority-none ts k t p full e out is = priority-is ts k t p e
+    (is ∙ sym (ap (λ (x : Timeslice). x .priority) (past ts k k freeTimeslice full refl out)))

@@ -46,7 +46,8 @@ pub park-coded : (ts : List Timeslice) (order : List ℕ) (live : ℕ) (codes af
 park-coded ts order live codes after heights k t c p full r e inside is ch =
     let y = withPlace p (getD ts k freeTimeslice) in
     let slices : map sliceOf (set ts k y) ≡ map sliceOf ts = map-set-same sliceOf ts k y freeTimeslice refl in
-    let places : map placeOf (set ts k y) ≡ set (map placeOf ts) t p = map-set placeOf ts k y ∙ ap (λ (j : ℕ). set (map placeOf ts) j p) e in
+    let places : map placeOf (set ts k y) ≡ set (map placeOf ts) t p =
+    map-set placeOf ts k y ∙ ap (λ (j : ℕ). set (map placeOf ts) j p) e in
     let low : t < length (map placeOf ts) = rw length-map (omega arith) in
     record {
       full = ch .size ∙ r .full;
@@ -95,7 +96,8 @@ module _ (at : Place → Bool) (q : ℕ) (no-queue : at Queue ≡ false) where
       go (different n isnt) = ap (move t) (getD-set-other ps u t (move u (placeAt ps u)) freePlace n)
 
   -- a place that would not be moved is kept
-  kept-once : (ps : List Place) (u t : ℕ) → move t (placeAt ps t) ≡ placeAt ps t → placeAt (set ps u (move u (placeAt ps u))) t ≡ placeAt ps t
+  kept-once : (ps : List Place) (u t : ℕ) → move t (placeAt ps t) ≡ placeAt ps t
+      → placeAt (set ps u (move u (placeAt ps u))) t ≡ placeAt ps t
   kept-once ps u t e = go (same t u)
     where
       go : Same t u → placeAt (set ps u (move u (placeAt ps u))) t ≡ placeAt ps t
@@ -111,7 +113,8 @@ module _ (at : Place → Bool) (q : ℕ) (no-queue : at Queue ≡ false) where
       kept l (set ps u (move u (placeAt ps u))) t (ap (move t) once ∙ e ∙ sym once) ∙ once
 
   -- every listed timeslice is moved
-  moves : (l : List ℕ) (ps : List Place) (i : ℕ) → i < length l → placeAt (releasedPlaces at q l ps) (getD l i 0) ≡ move (getD l i 0) (placeAt ps (getD l i 0))
+  moves : (l : List ℕ) (ps : List Place) (i : ℕ) → i < length l
+      → placeAt (releasedPlaces at q l ps) (getD l i 0) ≡ move (getD l i 0) (placeAt ps (getD l i 0))
   unfolding releasedPlaces
   moves [] ps i inside = absurd (omega arith)
   moves (u ∷ l) ps zero inside =
@@ -120,7 +123,8 @@ module _ (at : Place → Bool) (q : ℕ) (no-queue : at Queue ≡ false) where
   moves (u ∷ l) ps (suc i) inside = moves l (set ps u (move u (placeAt ps u))) i (omega arith) ∙ moved-once ps u (getD l i 0)
 
 -- the code of a place after a release is the released code
-released-code : (p s : Place) (q u : ℕ) → releasedCode (codeOf s) q (codeOf (Behind q)) u (codeOf p) ≡ codeOf (releasedPlace (setOf s) q u p)
+released-code : (p s : Place) (q u : ℕ) → releasedCode (codeOf s) q (codeOf (Behind q)) u (codeOf p) ≡ codeOf
+    (releasedPlace (setOf s) q u p)
 released-code p s q u = rw (in-set p s) (go (setOf s p) (eqb u q))
   where
     go : (b d : Bool) → cond b (cond d 0 (codeOf (Behind q))) (codeOf p) ≡ codeOf (cond b (cond d Queue (Behind q)) p)
@@ -129,13 +133,16 @@ released-code p s q u = rw (in-set p s) (go (setOf s p) (eqb u q))
     go false d = refl
 
 -- the search of a set by its code c, and the release of the codes
-module _ (order codes heights : List ℕ) (live : ℕ) (s : Place) (c : ℕ) (f : Sought) (is : c ≡ codeOf s) (e : soughtOf f ≡ topOf order (highest c codes heights 0 (entriesOf live))) where
+module _ (order codes heights : List ℕ) (live : ℕ) (s : Place) (c : ℕ) (f : Sought) (is : c ≡ codeOf s)
+    (e : soughtOf f ≡ topOf order (highest c codes heights 0 (entriesOf live))) where
   pub codes-none : f ≡ Nothing
-      → (soughtOf Nothing ≡ topOf order (highest (codeOf s) codes heights 0 (entriesOf live))) × ReleasedCodes s order live codes codes Nothing
+      → (soughtOf Nothing ≡ topOf order (highest (codeOf s) codes heights 0 (entriesOf live))) × ReleasedCodes s order live codes codes
+      Nothing
   codes-none at = (sym (ap soughtOf at) ∙ rw is at e, refl)
 
   pub codes-some : (q b : ℕ) (after : List ℕ) → f ≡ At q → b ≡ codeOf (Behind q) → Recoded (releasedCode c q b) order live codes after
-      → (soughtOf (At q) ≡ topOf order (highest (codeOf s) codes heights 0 (entriesOf live))) × ReleasedCodes s order live codes after (At q)
+      → (soughtOf (At q) ≡ topOf order (highest (codeOf s) codes heights 0 (entriesOf live))) × ReleasedCodes s order live codes after
+      (At q)
   codes-some q b after at behind ch = (sym (ap soughtOf at) ∙ rw is at e, rw (is, behind) at ch)
 
 -- a set of timeslices and its codes after a release
@@ -144,8 +151,10 @@ pub record Freed (s : Place) (ts : List Timeslice) (order : List ℕ) (live : �
   pub coded : Coded us order live codes heights
 
 -- a release of the set whose search soughtOf f: an empty set changes nothing
-module _ (ts : List Timeslice) (order : List ℕ) (live : ℕ) (codes after heights : List ℕ) (s : Place) (f : Sought) (full : length order ≡ 128)
-    (r : Coded ts order live codes heights) (e : soughtOf f ≡ topOf order (highest (codeOf s) codes heights 0 (entriesOf live))) (ch : ReleasedCodes s order live codes after f) where
+module _ (ts : List Timeslice) (order : List ℕ) (live : ℕ) (codes after heights : List ℕ) (s : Place) (f : Sought)
+    (full : length order ≡ 128)
+    (r : Coded ts order live codes heights) (e : soughtOf f ≡ topOf order (highest (codeOf s) codes heights 0 (entriesOf live)))
+    (ch : ReleasedCodes s order live codes after f) where
   top : soughtOf f ≡ topmost (map sliceOf ts) (takes s ts) (take live order)
   top = e ∙ top-is ts order live codes heights full r s
 
@@ -163,7 +172,11 @@ module _ (ts : List Timeslice) (order : List ℕ) (live : ℕ) (codes after heig
       let changed : Recoded (releasedCode (codeOf s) q (codeOf (Behind q))) order live codes after =
       subst (λ (g : Sought). ReleasedCodes s order live codes after g) is ch in
       record {
-        replaced = record { slices = re .slices; places = re .places ∙ somebody (setOf s) (map sliceOf ts) (take live order) (map placeOf ts) f top q is };
+        replaced = record {
+          slices = re .slices;
+          places = re .places
+              ∙ somebody (setOf s) (map sliceOf ts) (take live order) (map placeOf ts) f top q is;
+        };
         coded = record {
           full = changed .size ∙ r .full;
           code = λ i short.

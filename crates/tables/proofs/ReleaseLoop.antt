@@ -70,7 +70,8 @@ module _ (at : Place → Bool) (q n : ℕ) (order : List ℕ) (before now : List
   -- an entry that is no timeslice's number moves nothing
   pub skip : (k : ℕ) → k ≡ t → 128 ≤ k → Moving at q n order before now (i + 1)
   skip k e out =
-      let same = set-out (map placeOf now) t (releasedPlace at q t (placeAt (map placeOf now) t)) (rw length-map (omega (arith, m .full, e))) in
+      let same = set-out (map placeOf now) t (releasedPlace at q t (placeAt (map placeOf now) t))
+      (rw length-map (omega (arith, m .full, e))) in
       record { full = m .full; slices = m .slices; rest = rw add-one (rw same at next) }
 
 pub begin : (at : Place → Bool) (q n : ℕ) (order : List ℕ) (ts : List Timeslice) → length ts ≡ 128 → Moving at q n order ts ts 0

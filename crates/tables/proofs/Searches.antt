@@ -38,7 +38,8 @@ module _ (value : ℕ → ℕ) where
   store-one before now i v s e =
       record {
         size = length-set now i v ∙ s .size;
-        done = λ j h inside. let le : j ≤ i = omega arith in ⊎-elim (λ this. here j this inside) (λ less. earlier j less inside) (eq-or-lt-of-le le);
+        done = λ j h inside. let le : j ≤ i = omega arith in ⊎-elim (λ this. here j this inside) (λ less. earlier j less inside)
+            (eq-or-lt-of-le le);
         rest = λ j h. getD-set-other now i j v 0 (λ this. absurd (omega arith)) ∙ s .rest j (omega arith);
       }
     where
@@ -86,8 +87,11 @@ module _ (ts : List Timeslice) (order : List ℕ) (live n : ℕ) (codes₀ heigh
 
   pub filled : (codes heights : List ℕ) (i : ℕ) → Filling ts order live n codes₀ heights₀ codes heights i → n ≤ i
       → Entered (codeAt ts order) live codes₀ codes × Entered (heightAt ts order) live heights₀ heights
-  filled codes heights i f out =
-      (store-all _ live n codes₀ codes i (f .last) (f .coded) out (f .inside), store-all _ live n heights₀ heights i (f .last) (f .measured) out (f .inside))
+  filled codes heights i f out = (
+    store-all _ live n codes₀ codes i (f .last) (f .coded) out (f .inside),
+    store-all _ live n heights₀ heights i (f .last) (f .measured)
+        out (f .inside),
+  )
 
 -- in arrays of 128 entries every live timeslice then has its code and its height
 pub coded-by : (ts : List Timeslice) (order : List ℕ) (live : ℕ) (codes₀ heights₀ codes heights : List ℕ)
@@ -132,7 +136,8 @@ module _ (set : ℕ) (codes heights : List ℕ) (n : ℕ) where
   unfolding highest
   seek-none i e = let none-left : n - i ≡ 0 = omega arith in record { inside = omega arith; holds = rw none-left refl }
 
-  pub seek-one : (best j i w b : ℕ) → Scanned set codes heights n best j → j ≡ suc i → w ≡ weight (getD codes i 0) (getD heights i 0) set → b ≡ higher best w
+  pub seek-one : (best j i w b : ℕ) → Scanned set codes heights n best j → j ≡ suc i → w ≡ weight (getD codes i 0) (getD heights i 0) set
+      → b ≡ higher best w
       → Scanned set codes heights n b i
   unfolding highest
   seek-one best j i w b s e weighs is =
@@ -212,7 +217,14 @@ module _ (ts : List Timeslice) (order : List ℕ) (live : ℕ) (codes heights : 
   -- an earlier entry to look from changes nothing
   wider : (i best : ℕ) (o : Option ℕ) → Best (suc i) best o → Best i best o
   wider i best none h = h
-  wider i best (some t) h = record { turn-of = h .turn-of; later = omega (arith, h .later); inside = h .inside; at = h .at; stands = h .stands }
+  wider i best (some t) h = record {
+    turn-of = h .turn-of;
+    later = omega (arith, h .later);
+    inside = h .inside;
+    at = h .at;
+    stands =
+        h .stands;
+  }
 
   abbrev priority : ℕ → ℕ
   priority t = priorityAt (map sliceOf ts) t
@@ -225,7 +237,8 @@ module _ (ts : List Timeslice) (order : List ℕ) (live : ℕ) (codes heights : 
   pick : (i best : ℕ) (o : Option ℕ) → i < entriesOf live → Best (suc i) best o
       → Best i (higher best (heightOf (priority (getD order i 0)) i)) (upper (map sliceOf ts) (getD order i 0) o)
   pick i best none short h =
-      let low : ltb best (heightOf (priority (getD order i 0)) i) ≡ true = lt-ltb best (heightOf (priority (getD order i 0)) i) (omega arith) in
+      let low : ltb best (heightOf (priority (getD order i 0)) i) ≡ true =
+      lt-ltb best (heightOf (priority (getD order i 0)) i) (omega arith) in
       rw low (here i short)
   pick i best (some u) short h = go (two (ltb (priority (getD order i 0)) (priority u)))
     where
@@ -233,11 +246,13 @@ module _ (ts : List Timeslice) (order : List ℕ) (live : ℕ) (codes heights : 
           → Best i (higher best (heightOf (priority (getD order i 0)) i)) (upper (map sliceOf ts) (getD order i 0) (some u))
       go (yes-true e) =
           let lower : ltb best (heightOf (priority (getD order i 0)) i) ≡ false =
-          le-ltb best (heightOf (priority (getD order i 0)) i) (omega (arith, ltb-true (priority (getD order i 0)) (priority u) e, h .stands, h .inside)) in
+          le-ltb best (heightOf (priority (getD order i 0)) i)
+          (omega (arith, ltb-true (priority (getD order i 0)) (priority u) e, h .stands, h .inside)) in
           rw (e, lower) (wider i best (some u) h)
       go (no-false e) =
           let above : ltb best (heightOf (priority (getD order i 0)) i) ≡ true =
-          lt-ltb best (heightOf (priority (getD order i 0)) i) (omega (arith, ltb-false (priority (getD order i 0)) (priority u) e, h .stands, h .later, h .inside)) in
+          lt-ltb best (heightOf (priority (getD order i 0)) i)
+          (omega (arith, ltb-false (priority (getD order i 0)) (priority u) e, h .stands, h .later, h .inside)) in
           rw (e, above) (here i short)
 
   -- one entry more
@@ -247,17 +262,20 @@ module _ (ts : List Timeslice) (order : List ℕ) (live : ℕ) (codes heights : 
   weigh i best o false short h = let none-above : ltb best 0 ≡ false = le-ltb best 0 (omega arith) in rw none-above (wider i best o h)
 
   -- n entries from entry i on
-  stands-from : (n i : ℕ) → i + n ≡ entriesOf live → Best i (highest (codeOf s) codes heights i n) (topmost (map sliceOf ts) (takes s ts) (drop i (take live order)))
+  stands-from : (n i : ℕ) → i + n ≡ entriesOf live → Best i (highest (codeOf s) codes heights i n)
+      (topmost (map sliceOf ts) (takes s ts) (drop i (take live order)))
   unfolding highest topmost
   stands-from zero i e = rw (turns-out order live i full (omega arith)) refl
   stands-from (suc n) i e =
       let short : i < entriesOf live = omega arith in
-      let rest : Best (suc i) (highest (codeOf s) codes heights (suc i) n) (topmost (map sliceOf ts) (takes s ts) (drop (suc i) (take live order))) =
+      let rest : Best (suc i) (highest (codeOf s) codes heights (suc i) n)
+      (topmost (map sliceOf ts) (takes s ts) (drop (suc i) (take live order))) =
       stands-from n (suc i) (omega arith) in
       let taken : eqb (getD codes i 0) (codeOf s) ≡ takes s ts (getD order i 0) =
       ap (λ (c : ℕ). eqb c (codeOf s)) (r .code i short) ∙ in-set (placeAt (map placeOf ts) (getD order i 0)) s in
       rw (turn order live i full short, taken, r .height i short)
-      (weigh i (highest (codeOf s) codes heights (suc i) n) (topmost (map sliceOf ts) (takes s ts) (drop (suc i) (take live order))) (takes s ts (getD order i 0)) short rest)
+      (weigh i (highest (codeOf s) codes heights (suc i) n) (topmost (map sliceOf ts) (takes s ts) (drop (suc i) (take live order)))
+      (takes s ts (getD order i 0)) short rest)
 
   -- the entry is got back from the height
   found-by : (best : ℕ) (o : Option ℕ) → Best 0 best o → topOf order best ≡ o
@@ -269,4 +287,5 @@ module _ (ts : List Timeslice) (order : List ℕ) (live : ℕ) (codes heights : 
 
   -- so the search through codes and heights is the search that document 01 defines
   pub top-is : topOf order (highest (codeOf s) codes heights 0 (entriesOf live)) ≡ topmost (map sliceOf ts) (takes s ts) (take live order)
-  top-is = found-by (highest (codeOf s) codes heights 0 (entriesOf live)) (topmost (map sliceOf ts) (takes s ts) (take live order)) (stands-from (entriesOf live) 0 (omega arith))
+  top-is = found-by (highest (codeOf s) codes heights 0 (entriesOf live)) (topmost (map sliceOf ts) (takes s ts) (take live order))
+      (stands-from (entriesOf live) 0 (omega arith))

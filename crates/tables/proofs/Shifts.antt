@@ -74,7 +74,8 @@ module _ (t live : ℕ) (first : List ℕ) (from : ℕ) where
       let at = turn order live (suc i) (s .full) (omega (arith, s .end)) in
       let in-range : i < length order = omega (arith, s .full, s .end) in
       let tail : drop (suc (suc i)) (take live (set order i u)) ≡ rest =
-      ap (drop (suc (suc i))) (take-set-lt live order i u (omega (arith, s .end))) ∙ drop-set-lt (suc (suc i)) (take live order) i u (omega arith) in
+      ap (drop (suc (suc i))) (take-set-lt live order i u (omega (arith, s .end)))
+      ∙ drop-set-lt (suc (suc i)) (take live order) i u (omega arith) in
       let moved : take (suc i) (set order i u) ++ drop (suc (suc i)) (take live (set order i u)) ≡ take i order ++ (u ∷ rest) =
       rw (take-suc-set order i u in-range, tail) (append-snoc (take i order) u rest) in
       record {
@@ -102,7 +103,8 @@ module _ (t live : ℕ) (first : List ℕ) (from : ℕ) where
       }
 
 -- a listed timeslice goes to the back
-pub turned : (t live : ℕ) (order : List ℕ) (i : ℕ) (after : List ℕ) → i < entriesOf live → Position t live order i → Shifted t live order i after
+pub turned : (t live : ℕ) (order : List ℕ) (i : ℕ) (after : List ℕ) → i < entriesOf live → Position t live order i
+    → Shifted t live order i after
     → Turned t live order after
 unfolding toBack last
 turned t live order i after short (listed m inside others) s =

@@ -45,6 +45,10 @@ abbrev pub topOf : List ℕ → ℕ → Option ℕ
 topOf order zero = none
 topOf order (suc height) = some (getD order (turnOf (suc height)) 0)
 
+-- the topmost timeslice of a set, searched through codes and heights
+abbrev pub topIn : ℕ → List ℕ → ℕ → List ℕ → List ℕ → Option ℕ
+topIn set order live codes heights = topOf order (highest set codes heights 0 (entriesOf live))
+
 -- the code of timeslice t after timeslice `parked` is put at a place
 abbrev pub parkedCode : ℕ → ℕ → ℕ → ℕ → ℕ
 parkedCode parked to t code = cond (eqb t parked) to code

@@ -14,7 +14,8 @@ entriesOf live = min live limit
 
 -- entry i is the first that holds t, or t is not listed
 pub data Position (t live : ℕ) (order : List ℕ) (i : ℕ) : Type 0 where
-  listed : member t (take live order) ≡ true → i < entriesOf live → without t (take live order) ≡ take i order ++ drop (suc i) (take live order)
+  listed : member t (take live order) ≡ true → i < entriesOf live
+      → without t (take live order) ≡ take i order ++ drop (suc i) (take live order)
       → Position t live order i
   absent : member t (take live order) ≡ false → entriesOf live ≤ i → Position t live order i
 

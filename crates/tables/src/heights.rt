@@ -1,16 +1,11 @@
-// The live timeslices in turn order as numbers, for one search or for all the searches of one choice: a search through an array of numbers is
-// compiled to vector instructions, where a search through the timeslices is not.
+// The live timeslices in turn order as numbers, for one search or for all the searches of one choice: a search through an array of numbers
+// is compiled to vector instructions, where a search through the timeslices is not.
 ghost use mathlib.Core.Path.{_≡_};
-ghost use mathlib.Core.List.{map};
 ghost use Prim.Native.Nat.{_≤_, _<_};
-ghost use lib.ListN.{take};
-ghost use Rattle.rules.specs.State.{placeAt};
-ghost use Rattle.rules.specs.Order.{topmost as topmostOf};
-ghost use Rattle.tables.specs.Timeslices.{sliceOf, placeOf};
-ghost use Rattle.tables.specs.Sets.{setOf, soughtOf};
+ghost use Rattle.tables.specs.Sets.{soughtOf, topmostIn};
 ghost use Rattle.tables.specs.Turning.{entriesOf};
 ghost use Rattle.tables.specs.Codes.{codeOf, heightOf, turnOf, weight as weightOf, higher as higherOf, highest as highestOf};
-ghost use Rattle.tables.specs.Codes.{topOf, codeAt, heightAt, parkedCode, releasedCode, Entered, Recoded, ReleasedCodes};
+ghost use Rattle.tables.specs.Codes.{topIn, codeAt, heightAt, parkedCode, releasedCode, Entered, Recoded, ReleasedCodes};
 use crate::numbers::entries;
 use crate::numbers::index;
 use crate::order::Sought;
@@ -118,7 +113,7 @@ pub fn top_of(
     live: u8,
     set: u16,
 ) -> Sought
-    ensures { λ r. ⌜ soughtOf r ≡ topOf (now (order .entry)) (highestOf set (now (codes .entry)) (now (heights .entry)) 0 (entriesOf live)) ⌝ }
+    ensures { λ r. ⌜ soughtOf r ≡ topIn set (now (order .entry)) live (now (codes .entry)) (now (heights .entry)) ⌝ }
 {
     let best = highest(codes, heights, live, set);
     if 0 < best {
@@ -131,7 +126,7 @@ pub fn top_of(
 
 // The topmost of the timeslices in a set.
 pub fn topmost(timeslices: [Timeslice; 128], order: [u8; 128], live: u8, set: Place) -> Sought
-    ensures { λ r. ⌜ soughtOf r ≡ topmostOf (map sliceOf timeslices) (λ t. setOf set (placeAt (map placeOf timeslices) t)) (take live order) ⌝ }
+    ensures { λ r. ⌜ soughtOf r ≡ topmostIn set timeslices order live ⌝ }
 {
     let mut codes = [0u16; Timeslice::LIMIT];
     let mut heights = [0u16; Timeslice::LIMIT];
@@ -203,7 +198,7 @@ pub fn release_set(
     live: u8,
     set: Place,
 ) -> Sought
-    ensures { λ r. ⌜ soughtOf r ≡ topOf (now (order .entry)) (highestOf (codeOf set) (now (codes .entry)) (now (heights .entry)) 0 (entriesOf live)) ⌝ }
+    ensures { λ r. ⌜ soughtOf r ≡ topIn (codeOf set) (now (order .entry)) live (now (codes .entry)) (now (heights .entry)) ⌝ }
     ensures released { λ r. ⌜ ReleasedCodes set (now (order .entry)) live (now (codes .entry)) (now (codes .exit)) r ⌝ }
 {
     let c = code(set);

@@ -1,3 +1,4 @@
+-- The walk comes first; by what it came to, the Stalled, those On its end or nobody is released, and a choice follows.
 use Prim.Native.Nat.{_≤_}
 use mathlib.Core.Path.{_≡_, refl, sym, _∙_, ap, ap₂}
 use native.Mathlib.Omega.{arith}
@@ -22,17 +23,21 @@ use Rattle.dispatcher.proofs.Machine.abort_walks.Statement.{statement}
 use Rattle.dispatcher.proofs.Machine.abort_walks.Tie as tie
 
 -- at the place where the threads are changed: the end's hold, L and the bound on the links
-ends : (c : tie.After-aborted) → c .before .if1 .last ≡ holdAt (c .before .before .before .before .before .args .t1 .threads) (c .before .before .before .walk .result .end)
+ends : (c : tie.After-aborted) → c .before .if1 .last ≡ holdAt (c .before .before .before .before .before .args .t1 .threads)
+    (c .before .before .before .walk .result .end)
 ends c =
-    let s = c .before .before .before .before .before in
-    let ts = s .args .t1 .threads in
-    let full : length ts ≡ 128 = simp length-map at (s .good .0 .1 .1 .0 .1 .0 .1) in
-    ⊎-elim (λ o. held ts _ _ _ (c .before .before .index .ensures) (o .2)) (λ o. held-none ts _ _ _ full (c .before .before .index .ensures) (o .0 .left) (o .1)) (c .before .if1 .came)
+    let at-index = c .before .before in
+    let start = at-index .before .before .before in
+    let ts = start .args .t1 .threads in
+    let full : length ts ≡ 128 = simp length-map at (start .good .0 .1 .1 .0 .1 .0 .1) in
+    ⊎-elim (λ o. held ts _ _ _ (at-index .index .ensures) (o .2))
+    (λ o. held-none ts _ _ _ full (at-index .index .ensures) (o .0 .left) (o .1)) (c .before .if1 .came)
 
 counted : (c : tie.After-aborted) → c .before .before .before .before .before .args .t1 .«live_threads» ≡ liveThreads (c .aborted .result)
 counted c =
-    let s = c .before .before .before .before .before in
-    live-is (s .args .t1) (s .pre .exact) ∙ sym (live-aborted (s .args .n) (s .args .t1 .threads)) ∙ sym (ap liveThreads (c .aborted .ensures))
+    let start = c .before .before .before .before .before in
+    live-is (start .args .t1) (start .pre .exact) ∙ sym (live-aborted (start .args .n) (start .args .t1 .threads))
+    ∙ sym (ap liveThreads (c .aborted .ensures))
 
 walked : (c : tie.After-aborted) → let start = c .before .before .before .before .before in
     c .before .before .before .walk .result ≡ walk (start .args .t1 .threads) (start .args .n)
@@ -42,9 +47,9 @@ walked c =
 
 few : (c : tie.After-aborted) → c .before .before .before .walk .result .links ≤ 128
 few c =
-    let s = c .before .before .before .before .before in
-    let full : length (s .args .t1 .threads) ≡ 128 = simp length-map at (s .good .0 .1 .1 .0 .1 .0 .1) in
-    rw (walked c) (walk-links (s .args .t1 .threads) (s .args .n) full)
+    let start = c .before .before .before .before .before in
+    let full : length (start .args .t1 .threads) ≡ 128 = simp length-map at (start .good .0 .1 .1 .0 .1 .0 .1) in
+    rw (walked c) (walk-links (start .args .t1 .threads) (start .args .n) full)
 
 walk-requires : tie.Need-walk-requires
 walk-requires c κs = tt
@@ -69,17 +74,30 @@ release-requires c κs = tt
 
 choose-requires : tie.Need-choose-requires
 choose-requires c κs =
-    let s = c .before .before .before .before .before .before .before .before .before .before in
-    record { exact = stored-with (s .args .t1) (s .pre .exact) _ refl refl (counted (c .before .before .before .before .before)); few = omega (arith, c .before .before .before .before .wide .ensures, few (c .before .before .before .before .before)) }
+    let at-wide = c .before .before .before .before in
+    let place5 = at-wide .before in
+    let start = place5 .before .before .before .before .before in
+    record {
+      exact = stored-with (start .args .t1) (start .pre .exact) _ refl refl (counted place5);
+      few = omega
+          (arith, at-wide .wide .ensures, few place5);
+    }
 
 returns : tie.Need-returns
 returns c =
-    let a = c .before .before .before .before .before .before .before .before .before .before .before .args in
+    let at-wide = c .before .before .before .before .before in
+    let at-aborted = at-wide .before in
+    let at-walk = at-aborted .before .before .before in
+    let start = at-walk .before .before in
+    let a = start .args in
     let m = a .t1 in
-    let chain = c .before .before .before .before .before .before .before .before .before .walk .result in
-    let shows = released-shown m stalled _ (aborted (a .n) (m .threads)) (m .timeslices) _ _ _ _ (c .before .before .before .before .before .before .aborted .ensures) refl refl refl (c .before .release .ensures) in
-    let how = ap (λ (b : Bool). releaseAbort b (isBlocked (holdAt (m .threads) (chain .end))) (chain .end) (withThreads (aborted (a .n) (m .threads)) (shown m))) (sym (c .before .before .if2 .taken)) in
-    aborts m (a .n) chain _ (movedTo (c .before .before .before .before .before .before .aborted .result) (c .before .release .result) (m .order) m) _ (walked (c .before .before .before .before .before .before)) (c .before .before .before .before .before .wide .ensures) (shows ∙ how) (c .choose .ensures)
+    let chain = at-walk .walk .result in
+    let shows = released-shown m stalled _ (aborted (a .n) (m .threads)) (m .timeslices) _ _ _ _ (at-aborted .aborted .ensures) refl refl
+    refl (c .before .release .ensures) in
+    let how = ap (λ (b : Bool). releaseAbort b (isBlocked (holdAt (m .threads) (chain .end))) (chain .end)
+    (withThreads (aborted (a .n) (m .threads)) (shown m))) (sym (c .before .before .if2 .taken)) in
+    aborts m (a .n) chain _ (movedTo (at-aborted .aborted .result) (c .before .release .result) (m .order) m) _ (walked at-aborted)
+    (at-wide .wide .ensures) (shows ∙ how) (c .choose .ensures)
 
 is-blocked-requires : tie.Need-is-blocked-requires
 is-blocked-requires c κs = tt
@@ -89,33 +107,62 @@ release-requires-2 c κs = tt
 
 choose-requires-2 : tie.Need-choose-requires-2
 choose-requires-2 c κs =
-    let s = c .before .before .before .before .before .before .before .before .before .before .before .before in
-    record { exact = stored-with (s .args .t1) (s .pre .exact) _ refl refl (counted (c .before .before .before .before .before .before .before)); few = omega (arith, c .before .before .before .before .before .before .wide .ensures, few (c .before .before .before .before .before .before .before)) }
+    let at-wide = c .before .before .before .before .before .before in
+    let place7 = at-wide .before in
+    let start = place7 .before .before .before .before .before in
+    record {
+      exact = stored-with (start .args .t1) (start .pre .exact) _ refl refl (counted place7);
+      few = omega
+          (arith, at-wide .wide .ensures, few place7);
+    }
 
 returns-2 : tie.Need-returns-2
 returns-2 c =
-    let a = c .before .before .before .before .before .before .before .before .before .before .before .before .before .args in
+    let at-if2 = c .before .before .before .before in
+    let at-wide = at-if2 .before .before .before in
+    let at-aborted = at-wide .before in
+    let at-walk = at-aborted .before .before .before in
+    let start = at-walk .before .before in
+    let a = start .args in
     let m = a .t1 in
-    let chain = c .before .before .before .before .before .before .before .before .before .before .before .walk .result in
-    let blocked : isBlocked (holdAt (m .threads) (chain .end)) ≡ true = sym (ap isBlocked (ends (c .before .before .before .before .before .before .before .before))) ∙ sym (c .before .before .before .is-blocked .ensures) ∙ c .before .before .if3 .taken in
-    let shows = released-shown m (onThread (chain .end)) _ (aborted (a .n) (m .threads)) (m .timeslices) _ _ _ _ (c .before .before .before .before .before .before .before .before .aborted .ensures) refl refl refl (c .before .release2 .ensures) in
-    let how = ap₂ (λ (l b : Bool). releaseAbort l b (chain .end) (withThreads (aborted (a .n) (m .threads)) (shown m))) (sym (c .before .before .before .before .if2 .left)) (sym blocked) in
-    aborts m (a .n) chain _ (movedTo (c .before .before .before .before .before .before .before .before .aborted .result) (c .before .release2 .result) (m .order) m) _ (walked (c .before .before .before .before .before .before .before .before)) (c .before .before .before .before .before .before .before .wide .ensures) (shows ∙ how) (c .choose2 .ensures)
+    let chain = at-walk .walk .result in
+    let blocked : isBlocked (holdAt (m .threads) (chain .end)) ≡ true =
+    sym (ap isBlocked (ends at-aborted)) ∙ sym (c .before .before .before .is-blocked .ensures) ∙ c .before .before .if3 .taken in
+    let shows = released-shown m (onThread (chain .end)) _ (aborted (a .n) (m .threads)) (m .timeslices) _ _ _ _
+    (at-aborted .aborted .ensures) refl refl refl (c .before .release2 .ensures) in
+    let how = ap₂ (λ (l b : Bool). releaseAbort l b (chain .end) (withThreads (aborted (a .n) (m .threads)) (shown m)))
+    (sym (at-if2 .if2 .left)) (sym blocked) in
+    aborts m (a .n) chain _ (movedTo (at-aborted .aborted .result) (c .before .release2 .result) (m .order) m) _ (walked at-aborted)
+    (at-wide .wide .ensures) (shows ∙ how) (c .choose2 .ensures)
 
 choose-requires-3 : tie.Need-choose-requires-3
 choose-requires-3 c κs =
-    let s = c .before .before .before .before .before .before .before .before .before .before .before in
-    record { exact = stored-with (s .args .t1) (s .pre .exact) _ refl refl (counted (c .before .before .before .before .before .before)); few = omega (arith, c .before .before .before .before .before .wide .ensures, few (c .before .before .before .before .before .before)) }
+    let at-wide = c .before .before .before .before .before in
+    let place6 = at-wide .before in
+    let start = place6 .before .before .before .before .before in
+    record {
+      exact = stored-with (start .args .t1) (start .pre .exact) _ refl refl (counted place6);
+      few = omega
+          (arith, at-wide .wide .ensures, few place6);
+    }
 
 returns-3 : tie.Need-returns-3
 returns-3 c =
-    let a = c .before .before .before .before .before .before .before .before .before .before .before .before .args in
+    let at-wide = c .before .before .before .before .before .before in
+    let at-aborted = at-wide .before in
+    let at-walk = at-aborted .before .before .before in
+    let start = at-walk .before .before in
+    let a = start .args in
     let m = a .t1 in
-    let chain = c .before .before .before .before .before .before .before .before .before .before .walk .result in
-    let open-end : isBlocked (holdAt (m .threads) (chain .end)) ≡ false = sym (ap isBlocked (ends (c .before .before .before .before .before .before .before))) ∙ sym (c .before .before .is-blocked .ensures) ∙ c .before .if3 .left in
-    let shows = threads-shown m _ (aborted (a .n) (m .threads)) (c .before .before .before .before .before .before .before .aborted .ensures) in
-    let how = ap₂ (λ (l b : Bool). releaseAbort l b (chain .end) (withThreads (aborted (a .n) (m .threads)) (shown m))) (sym (c .before .before .before .if2 .left)) (sym open-end) in
-    aborts m (a .n) chain _ (movedTo (c .before .before .before .before .before .before .before .aborted .result) (m .timeslices) (m .order) m) _ (walked (c .before .before .before .before .before .before .before)) (c .before .before .before .before .before .before .wide .ensures) (shows ∙ how) (c .choose3 .ensures)
+    let chain = at-walk .walk .result in
+    let open-end : isBlocked (holdAt (m .threads) (chain .end)) ≡ false =
+    sym (ap isBlocked (ends at-aborted)) ∙ sym (c .before .before .is-blocked .ensures) ∙ c .before .if3 .left in
+    let shows = threads-shown m _ (aborted (a .n) (m .threads)) (at-aborted .aborted .ensures) in
+    let how = ap₂ (λ (l b : Bool). releaseAbort l b (chain .end) (withThreads (aborted (a .n) (m .threads)) (shown m)))
+    (sym (c .before .before .before .if2 .left)) (sym open-end) in
+    aborts m (a .n) chain _ (movedTo (at-aborted .aborted .result) (m .timeslices) (m .order) m) _ (walked at-aborted)
+    (at-wide .wide .ensures) (shows ∙ how) (c .choose3 .ensures)
 
 pub abort-walks-spec : {M : Type 1} → statement M
-abort-walks-spec = tie.close (tie.spec walk-requires index-requires mul-z element-copy-out-z aborted-requires wide-requires release-requires choose-requires returns is-blocked-requires release-requires-2 choose-requires-2 returns-2 choose-requires-3 returns-3)
+abort-walks-spec = tie.close (tie.spec walk-requires index-requires mul-z element-copy-out-z aborted-requires wide-requires release-requires
+    choose-requires returns is-blocked-requires release-requires-2 choose-requires-2 returns-2 choose-requires-3 returns-3)

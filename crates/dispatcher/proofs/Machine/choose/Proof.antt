@@ -14,7 +14,8 @@ use Rattle.tables.proofs.Lookups.{owns, owns-none, held, held-none}
 use Rattle.tables.proofs.Walks.{walks}
 use Rattle.tables.proofs.Searches.{coded-by}
 use Rattle.tables.proofs.Recodings.{freed-none, freed-some}
-use Rattle.dispatcher.proofs.ChoiceLoop.{Choosing, begin, lives-are, tops-queue, out, Look, looked, runs-none, runs-at, goes-on, stateOf}
+use Rattle.dispatcher.proofs.ChoiceLoop.{Choosing, begin, lives-are, tops-queue, out, Look, looked, runs-none, runs-at, goes-on}
+use Rattle.dispatcher.proofs.ChoiceLoop.{stateOf}
 use Rattle.dispatcher.proofs.ChoiceLoop.{put-aside, none-aside, none-queued, Unreleased, unreleased-retry, unreleased-aside}
 use borrow.Author.Needs.{needs}
 use native.Mathlib.Omega.{arith}
@@ -22,7 +23,8 @@ use Rattle.dispatcher.proofs.Machine.choose.Statement.{statement}
 use Rattle.dispatcher.proofs.Machine.choose.Tie as tie
 
 abbrev Inv-loop : tie.InvT-loop
-Inv-loop links self₀ live live-threads order followed₀ looks₀ codes₀ heights self followed looks codes = Choosing self₀ links live live-threads order self followed looks codes heights
+Inv-loop links self₀ live live-threads order followed₀ looks₀ codes₀ heights self followed looks codes = Choosing self₀ links live
+    live-threads order self followed looks codes heights
 
 abbrev μ-loop : tie.MeasureT-loop
 μ-loop links self₀ live live-threads order followed₀ looks₀ codes₀ heights self followed looks codes = looks
@@ -33,7 +35,8 @@ look : (c : tie.After-judged Inv-loop μ-loop) (v : Said) → c .judged .result 
     let told = walked .before .before .before .before .before in
     let turn = told .before .before .before .before .before .before .before in
     let start = turn .before .before .before .before .before .before .before in
-    Look (stateOf (turn .loop .self) (start .args .t1 .«live_timeslices») (start .args .t1 .order)) (told .top .given .0 .0) (walked .walk .result) (verdictOf v)
+    Look (stateOf (turn .loop .self) (start .args .t1 .«live_timeslices») (start .args .t1 .order)) (told .top .given .0 .0)
+    (walked .walk .result) (verdictOf v)
 look c v is =
     let held-at = c .before in
     let walked = held-at .before .before .before in
@@ -47,7 +50,8 @@ look c v is =
     let indexed = owner .before .index2 .ensures in
     let ended = held-at .before .index3 .ensures in
     looked _ (top .result) _ _ _ _ _ v (tops-queue _ _ _ _ _ _ _ _ _ _ w (top .result) (top .ensures)) (told .top .given .1)
-    (⊎-elim (λ o. owns (m .timeslices) _ _ _ indexed (o .2)) (λ o. owns-none (m .timeslices) _ _ _ (w .timeslices) indexed (o .0 .left) (o .1))
+    (⊎-elim (λ o. owns (m .timeslices) _ _ _ indexed (o .2))
+    (λ o. owns-none (m .timeslices) _ _ _ (w .timeslices) indexed (o .0 .left) (o .1))
     (owner .if1 .came))
     (walks (m .threads) _ _ _ (lives-are _ _ _ _ _ _ _ _ _ _ w) (walked .walk .ensures))
     (⊎-elim (λ o. held (m .threads) _ _ _ ended (o .2)) (λ o. held-none (m .threads) _ _ _ (w .threads) ended (o .0 .left) (o .1))
@@ -63,7 +67,8 @@ unreleased : (c : tie.At-match2-came Inv-loop μ-loop)
     let turn = told .before .before .before .before .before .before .before in
     let filled = turn .before in
     let start = filled .before .before .before .before .before .before in
-    Unreleased (turn .loop .self) (start .args .t1 .«live_timeslices») (start .args .t1 .order) (told .top .given .0 .0) (walked .walk .result)
+    Unreleased (turn .loop .self) (start .args .t1 .«live_timeslices») (start .args .t1 .order) (told .top .given .0 .0)
+    (walked .walk .result)
     (judged .judged .result) (c .match2 .self) (c .match2 .codes) (filled .fill .last .1 .0)
 unreleased c =
     let judged = c .before in
@@ -82,7 +87,8 @@ unreleased c =
     (λ o. unreleased-retry m live order _ _ (w .coded) _ _ said n (c .match2 .codes) (o .1 .given .1) _ (o .2 .ensures) (o .3) (o .4))
     (⊎-elim
     (λ o. unreleased-aside m live order _ _ (w .coded) _ _ said n (c .match2 .codes) (o .0 .keys3) (o .1 .result) (o .1 .ensures)
-    (put-aside m live order _ _ (w .coded) (w .timeslices) _ _ indexed (o .1 .result) n (c .match2 .codes) (o .2 .taken) (o .8) _ (o .4 .ensures) _ (o .9) (o .7 .ensures)))
+    (put-aside m live order _ _ (w .coded) (w .timeslices) _ _ indexed (o .1 .result) n (c .match2 .codes) (o .2 .taken) (o .8) _
+    (o .4 .ensures) _ (o .9) (o .7 .ensures)))
     (λ o. unreleased-aside m live order _ _ (w .coded) _ _ said n (c .match2 .codes) (o .0 .keys3) (o .1 .result) (o .1 .ensures)
     (none-aside m live order _ _ (w .coded) (w .timeslices) _ _ indexed (o .1 .result) n (c .match2 .codes) (o .2 .left) (o .3) (o .4))))
     (c .match2 .came)
@@ -103,7 +109,8 @@ loop-holds c =
     let owns = start .good .0 .1 .1 in
     let m = start .args .t1 in
     let codes = coded-by (m .timeslices) (m .order) (m .«live_timeslices») _ _ _ _ refl refl (c .fill .ensures .0) (c .fill .ensures .1) in
-    begin _ _ _ _ _ (start .pre) (simp length-map at (owns .1 .1 .0 .1 .0 .1)) (simp length-map at (owns .0 .1 .0 .1)) (simp length-map at (owns .1 .0 .1 .0 .1))
+    begin _ _ _ _ _ (start .pre) (simp length-map at (owns .1 .1 .0 .1 .0 .1)) (simp length-map at (owns .0 .1 .0 .1))
+    (simp length-map at (owns .1 .0 .1 .0 .1))
     (ap (λ (k : ℕ). k + 2) (filled .before .before .before .index .ensures)) codes
 
 sub-looks : tie.Need-sub-looks Inv-loop μ-loop
@@ -143,7 +150,9 @@ walk-requires : tie.Need-walk-requires Inv-loop μ-loop
 walk-requires c κs = tt
 
 added-requires : tie.Need-added-requires Inv-loop μ-loop
-added-requires c κs = let turn = c .before .before .before .before .before .before .before .before .before .before .before .before in omega (arith, turn .loop .inv .few)
+added-requires c κs =
+    let turn = c .before .before .before .before .before .before .before .before .before .before .before .before in
+    omega (arith, turn .loop .inv .few)
 
 index-requires-3 : tie.Need-index-requires-3 Inv-loop μ-loop
 index-requires-3 c κs = tt
@@ -170,7 +179,8 @@ returns-2 c =
     let added = judged .before .before .before in
     let tested = added .before .before .before .before .before .before .before .before .before .before .before .before in
     rw (c .answered2 .ensures)
-    (runs-at _ _ _ _ _ _ _ _ _ _ (tested .before .loop .inv) _ _ _ (tested .loop-test .taken) (added .added .ensures) (look judged Runs (told .enum-told2 .given .1)))
+    (runs-at _ _ _ _ _ _ _ _ _ _ (tested .before .loop .inv) _ _ _ (tested .loop-test .taken) (added .added .ensures)
+    (look judged Runs (told .enum-told2 .given .1)))
 
 enum-told-3 : tie.Need-enum-told-3 Inv-loop μ-loop
 enum-told-3 c = search needs
@@ -209,7 +219,10 @@ enum-told-4 : tie.Need-enum-told-4 Inv-loop μ-loop
 enum-told-4 c = search needs
 
 loop-less : tie.Need-loop-less Inv-loop μ-loop
-loop-less c = let tested = c .before .before .before .before .before .before .before .before .before .before .before .before .before .before .before .before .before .before .before .before .before .before .before in omega (arith, tested .loop-test .taken)
+loop-less c =
+    let joined = c .before .before .before .before .before .before .before in
+    let tested = joined .before .before .before .before .before .before .before .before .before .before .before .before .before .before .before .before in
+    omega (arith, tested .loop-test .taken)
 
 loop-again : tie.Need-loop-again Inv-loop μ-loop
 loop-again c =
@@ -223,9 +236,11 @@ loop-again c =
     let before-it = unreleased done in
     let n = done .match2 .self in
     let said = judged .judged .result in
-    let free = freed-none (n .timeslices) _ _ _ _ _ (chosen .freed-by .result) (set-free .release-set .result) (w .entries) (before-it .coded)
+    let free = freed-none (n .timeslices) _ _ _ _ _ (chosen .freed-by .result) (set-free .release-set .result) (w .entries)
+    (before-it .coded)
     (set-free .release-set .ensures .0) (set-free .release-set .ensures .1) (c .enum-told4 .given .1) in
-    goes-on _ _ _ _ _ _ _ _ _ _ w _ _ _ said n _ _ (n .timeslices) (tested .loop-test .taken) (added .added .ensures) (look judged said refl) before-it
+    goes-on _ _ _ _ _ _ _ _ _ _ w _ _ _ said n _ _ (n .timeslices) (tested .loop-test .taken) (added .added .ensures)
+    (look judged said refl) before-it
     (rw (chosen .freed-by .ensures) at free)
 
 enum-known-first : tie.Need-enum-known-first Inv-loop μ-loop
@@ -235,7 +250,10 @@ released-requires : tie.Need-released-requires Inv-loop μ-loop
 released-requires c κs = tt
 
 loop-less-2 : tie.Need-loop-less-2 Inv-loop μ-loop
-loop-less-2 c = let tested = c .before .before .before .before .before .before .before .before .before .before .before .before .before .before .before .before .before .before .before .before .before .before .before .before .before .before in omega (arith, tested .loop-test .taken)
+loop-less-2 c =
+    let joined = c .before .before .before .before .before .before .before .before .before .before in
+    let tested = joined .before .before .before .before .before .before .before .before .before .before .before .before .before .before .before .before in
+    omega (arith, tested .loop-test .taken)
 
 loop-again-2 : tie.Need-loop-again-2 Inv-loop μ-loop
 loop-again-2 c =

@@ -1,3 +1,4 @@
+-- The timeslice is refilled and goes to the back; its followers are released, and a choice follows.
 use mathlib.Core.Path.{refl}
 use native.Mathlib.Omega.{arith}
 use Rattle.dispatcher.specs.Shown.{shown}
@@ -33,18 +34,25 @@ release-requires : tie.Need-release-requires
 release-requires c κs = tt
 
 choose-requires : tie.Need-choose-requires
-choose-requires c κs = let s = c .before .before .before .before .before .before in choosable _ (turned-exact (s .args .t1) _ _ _ (s .pre .0 .exact) (c .before .to-back .ensures))
+choose-requires c κs =
+    let start = c .before .before .before .before .before .before in
+    choosable _ (turned-exact (start .args .t1) _ _ _ (start .pre .0 .exact) (c .before .to-back .ensures))
 
 returns : tie.Need-returns
 unfolding depletes
 returns c =
-    let start = c .before .before .before .before .before .before .before in
+    let at-to-back = c .before .before in
+    let at-index = at-to-back .before .before .before .before in
+    let start = at-index .before in
     let a = start .args in
     let m = a .t1 in
-    let at = c .before .before .before .before .before .before .index .ensures in
-    chosen (movedTo (m .threads) (c .before .release .result) (c .before .before .to-back .result) m) 0 _ _
-    (released-shown m (behind (a .t)) _ _ _ _ (refilled (a .t) (shown m .slices)) _ (toBack (a .t) (shown m .order)) refl (refills (m .timeslices) _ (a .t) at) (left-places (m .timeslices) _ (a .t) _ at) (rw (start .pre .1 .1) at (c .before .before .to-back .ensures .turns)) (c .before .release .ensures))
+    let at = at-index .index .ensures in
+    chosen (movedTo (m .threads) (c .before .release .result) (at-to-back .to-back .result) m) 0 _ _
+    (released-shown m (behind (a .t)) _ _ _ _ (refilled (a .t) (shown m .slices)) _ (toBack (a .t) (shown m .order)) refl
+    (refills (m .timeslices) _ (a .t) at) (left-places (m .timeslices) _ (a .t) _ at)
+    (rw (start .pre .1 .1) at (at-to-back .to-back .ensures .turns)) (c .before .release .ensures))
     (c .choose .ensures)
 
 pub depleted-spec : {M : Type 1} → statement M
-depleted-spec = tie.close (tie.spec index-requires mul-x element-copy-out-x mul-y element-set-from-y to-back-requires release-requires choose-requires returns)
+depleted-spec = tie.close (tie.spec index-requires mul-x element-copy-out-x mul-y element-set-from-y to-back-requires release-requires
+    choose-requires returns)

@@ -1,3 +1,4 @@
+-- Refused where nothing runs; else one hold changes, and a choice follows.
 use mathlib.Core.Path.{refl}
 use Rattle.rules.specs.declared.Hold.the-variants.{Blocked}
 use Rattle.rules.specs.declared.Event.the-variants.{Block}
@@ -25,9 +26,9 @@ with-hold-requires c κs = search needs
 
 choose-requires : tie.Need-choose-requires
 choose-requires c κs =
-    let s = c .before .before .before .before .before in
-    let ok = sound-stored (s .args .self) (s .pre) in
-    record { exact = threads-exact (s .args .self) _ _ ok (c .with-hold .ensures) (live-hold _ _ _); few = omega arith }
+    let start = c .before .before .before .before .before in
+    let ok = sound-stored (start .args .self) (start .pre) in
+    record { exact = threads-exact (start .args .self) _ _ ok (c .with-hold .ensures) (live-hold _ _ _); few = omega arith }
 
 returns : tie.Need-returns
 returns c = refuse _ _ (c .answered .ensures) (rw (c .before .enum-told .given .1) refl)
@@ -35,10 +36,12 @@ returns c = refuse _ _ (c .answered .ensures) (rw (c .before .enum-told .given .
 returns-2 : tie.Need-returns-2
 unfolding block
 returns-2 c =
-    let s = c .before .before .before .before .before .before in
-    let m = s .args .self in
-    let n = c .before .before .before .before .running .given .0 .0 in
-    accept Block m (s .pre) (rw (c .before .before .before .before .running .given .1) refl) (choosesIn (withThreads (setHold n Blocked (m .threads)) (shown m))) (rw (c .before .before .before .before .running .given .1) refl) _
+    let at-running = c .before .before .before .before in
+    let start = at-running .before .before in
+    let m = start .args .self in
+    let n = at-running .running .given .0 .0 in
+    accept Block m (start .pre) (rw (at-running .running .given .1) refl)
+    (choosesIn (withThreads (setHold n Blocked (m .threads)) (shown m))) (rw (at-running .running .given .1) refl) _
     (chosen (threadsTo _ m) 0 _ _ (threads-shown m _ _ (c .before .with-hold .ensures)) (c .choose .ensures))
 
 pub dispatch-block-spec : {M : Type 1} → statement M

@@ -1,3 +1,4 @@
+-- Each refusal is the first that fits; past them the slot is free, and L is one more.
 use mathlib.Core.Path.{_≡_, refl, sym, _∙_, ap}
 use Prim.Native.Nat.{ℕ}
 use native.Mathlib.Omega.{arith}
@@ -30,9 +31,11 @@ element-copy-out-old c = search needs
 
 returns-2 : tie.Need-returns-2
 returns-2 c =
-    let m = c .before .before .before .before .before .args .t1 in
+    let at-if1 = c .before .before .before .before in
+    let start = at-if1 .before in
+    let m = start .args .t1 in
     let live = sym (ap (λ (k : ℕ). threadAt (m .threads) k .live) (c .before .before .before .index .ensures)) ∙ c .before .if2 .taken in
-    refuse _ _ (c .answered2 .ensures) (rw (le-ltb _ _ (c .before .before .before .before .if1 .left), live) refl)
+    refuse _ _ (c .answered2 .ensures) (rw (le-ltb _ _ (at-if1 .if1 .left), live) refl)
 
 starts-as-requires : tie.Need-starts-as-requires
 starts-as-requires c κs = search needs
@@ -45,20 +48,25 @@ element-set-from-new c = search needs
 
 add-self : tie.Need-add-self
 add-self c =
-    let s = c .before .before .before .before .before in
-    let full : length (s .args .t1 .threads) ≡ 128 = simp length-map at (s .good .0 .1 .1 .0 .1 .0 .1) in
-    omega (arith, live-is _ (sound-stored _ (s .pre)), live-most (s .args .t1 .threads))
+    let start = c .before .before .before .before .before in
+    let full : length (start .args .t1 .threads) ≡ 128 = simp length-map at (start .good .0 .1 .1 .0 .1 .0 .1) in
+    omega (arith, live-is _ (sound-stored _ (start .pre)), live-most (start .args .t1 .threads))
 
 returns-3 : tie.Need-returns-3
 unfolding create
 returns-3 c =
-    let s = c .before .before .before .before .before .before in
-    let a = s .args in
-    let ok = sound-stored (a .t1) (s .pre) in
-    let full : length (a .t1 .threads) ≡ 128 = simp length-map at (s .good .0 .1 .1 .0 .1 .0 .1) in
-    let free = sym (ap (λ (k : ℕ). threadAt (a .t1 .threads) k .live) (c .before .before .before .before .index .ensures)) ∙ c .before .before .if2 .left in
-    accept (Create (a .n) (a .role)) (a .t1) (s .pre) (rw (le-ltb _ _ (c .before .before .before .before .before .if1 .left), free) refl) (create (a .n) (a .role) (shown (a .t1))) refl _
-    (stands (c .answered3 .ensures) (creation-shown (a .t1) _ _ _ _ (c .before .before .before .before .index .ensures) (c .before .starts-as .ensures)) (creation-exact (a .t1) _ _ _ _ (c .before .before .before .before .index .ensures) (c .before .starts-as .ensures) ok (omega (arith, full, c .before .before .before .before .before .if1 .left)) free))
+    let at-index = c .before .before .before .before in
+    let at-if1 = at-index .before in
+    let start = at-if1 .before in
+    let a = start .args in
+    let ok = sound-stored (a .t1) (start .pre) in
+    let full : length (a .t1 .threads) ≡ 128 = simp length-map at (start .good .0 .1 .1 .0 .1 .0 .1) in
+    let free = sym (ap (λ (k : ℕ). threadAt (a .t1 .threads) k .live) (at-index .index .ensures)) ∙ c .before .before .if2 .left in
+    accept (Create (a .n) (a .role)) (a .t1) (start .pre) (rw (le-ltb _ _ (at-if1 .if1 .left), free) refl)
+    (create (a .n) (a .role) (shown (a .t1))) refl _
+    (stands (c .answered3 .ensures) (creation-shown (a .t1) _ _ _ _ (at-index .index .ensures) (c .before .starts-as .ensures))
+    (creation-exact (a .t1) _ _ _ _ (at-index .index .ensures) (c .before .starts-as .ensures) ok (omega (arith, full, at-if1 .if1 .left))
+    free))
 
 pub dispatch-create-spec : {M : Type 1} → statement M
 dispatch-create-spec =

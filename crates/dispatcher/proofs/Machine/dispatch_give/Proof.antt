@@ -1,3 +1,4 @@
+-- Each refusal is the first that fits; past them the turn order lacks the timeslice, so it has room for it.
 use Prim.Native.Nat.{_<_}
 use mathlib.Core.Path.{_≡_, refl, sym, _∙_}
 use native.Mathlib.Omega.{arith}
@@ -22,12 +23,14 @@ use Rattle.dispatcher.proofs.Machine.dispatch_give.Tie as tie
 -- the turn order has room for a timeslice that it does not list
 roomy : (c : tie.Else3) → c .before .before .before .before .before .args .t1 .«live_timeslices» < 128
 roomy c =
-    let s = c .before .before .before .before .before in
-    let m = s .args .t1 in
-    let turns = sound-of (shown m) (sound-shown m (s .pre)) .mid .shape .turns in
-    let fits = turns-fit m (sound-stored m (s .pre)) in
-    let full : length (m .order) ≡ 128 = simp length-map at (s .good .0 .1 .1 .1 .1 .0 .1 .0 .1) in
-    let few = room 128 (s .args .t) (take (m .«live_timeslices») (m .order)) (turns .small) (turns .once) (omega (arith, c .before .before .before .before .if1 .left)) (sym (c .before .member .ensures) ∙ c .if3 .left) in
+    let at-if1 = c .before .before .before .before in
+    let start = at-if1 .before in
+    let m = start .args .t1 in
+    let turns = sound-of (shown m) (sound-shown m (start .pre)) .mid .shape .turns in
+    let fits = turns-fit m (sound-stored m (start .pre)) in
+    let full : length (m .order) ≡ 128 = simp length-map at (start .good .0 .1 .1 .1 .1 .0 .1 .0 .1) in
+    let few = room 128 (start .args .t) (take (m .«live_timeslices») (m .order)) (turns .small) (turns .once)
+    (omega (arith, at-if1 .if1 .left)) (sym (c .before .member .ensures) ∙ c .if3 .left) in
     omega (arith, few, length-take-le (m .«live_timeslices») (m .order) (omega arith))
 
 returns : tie.Need-returns
@@ -40,7 +43,15 @@ member-requires : tie.Need-member-requires
 member-requires c κs = tt
 
 returns-3 : tie.Need-returns-3
-returns-3 c = refuse _ _ (c .answered3 .ensures) (rw (le-ltb _ _ (c .before .before .before .before .before .if1 .left), le-ltb _ _ (c .before .before .before .before .if2 .left), sym (c .before .before .member .ensures) ∙ c .before .if3 .taken) refl)
+returns-3 c =
+    let at-if2 = c .before .before .before .before in
+    let at-if1 = at-if2 .before in
+    refuse _ _ (c .answered3 .ensures) (rw (
+      le-ltb _ _ (at-if1 .if1 .left),
+      le-ltb _ _ (at-if2 .if2 .left),
+      sym
+          (c .before .before .member .ensures) ∙ c .before .if3 .taken,
+    ) refl)
 
 index-requires : tie.Need-index-requires
 index-requires c κs = tt
@@ -53,24 +64,66 @@ element-copy-out-thread c = search needs
 
 returns-4 : tie.Need-returns-4
 returns-4 c =
-    let m = c .before .before .before .before .before .before .before .before .before .before .args .t1 in
-    let dead = read (λ (t : Thread). t .live) (m .threads) _ _ _ (c .before .before .before .before .index .ensures) (not-true _ (c .before .if4 .taken)) in
-    refuse _ _ (c .answered4 .ensures) (rw (le-ltb _ _ (c .before .before .before .before .before .before .before .before .before .if1 .left), le-ltb _ _ (c .before .before .before .before .before .before .before .before .if2 .left), sym (c .before .before .before .before .before .before .member .ensures) ∙ c .before .before .before .before .before .if3 .left, dead) refl)
+    let at-index = c .before .before .before .before in
+    let at-if3 = at-index .before in
+    let at-member = at-if3 .before in
+    let at-if2 = at-member .before .before in
+    let at-if1 = at-if2 .before in
+    let start = at-if1 .before in
+    let m = start .args .t1 in
+    let dead = read (λ (t : Thread). t .live) (m .threads) _ _ _ (at-index .index .ensures) (not-true _ (c .before .if4 .taken)) in
+    refuse _ _ (c .answered4 .ensures) (rw (
+      le-ltb _ _ (at-if1 .if1 .left),
+      le-ltb _ _ (at-if2 .if2 .left),
+      sym (at-member .member .ensures)
+          ∙ at-if3 .if3 .left,
+      dead,
+    ) refl)
 
 owns-one-requires : tie.Need-owns-one-requires
 owns-one-requires c κs = tt
 
 returns-5 : tie.Need-returns-5
 returns-5 c =
-    let m = c .before .before .before .before .before .before .before .before .before .before .before .before .before .args .t1 in
-    let live = read (λ (t : Thread). t .live) (m .threads) _ _ _ (c .before .before .before .before .before .before .before .index .ensures) (not-false _ (c .before .before .before .before .if4 .left)) in
-    refuse _ _ (c .answered5 .ensures) (rw (le-ltb _ _ (c .before .before .before .before .before .before .before .before .before .before .before .before .if1 .left), le-ltb _ _ (c .before .before .before .before .before .before .before .before .before .before .before .if2 .left), sym (c .before .before .before .before .before .before .before .before .before .member .ensures) ∙ c .before .before .before .before .before .before .before .before .if3 .left, live, sym (c .before .before .owns-one .ensures) ∙ c .before .if5 .taken) refl)
+    let at-if4 = c .before .before .before .before in
+    let at-index = at-if4 .before .before .before in
+    let at-if3 = at-index .before in
+    let at-member = at-if3 .before in
+    let at-if2 = at-member .before .before in
+    let at-if1 = at-if2 .before in
+    let start = at-if1 .before in
+    let m = start .args .t1 in
+    let live = read (λ (t : Thread). t .live) (m .threads) _ _ _ (at-index .index .ensures) (not-false _ (at-if4 .if4 .left)) in
+    refuse _ _ (c .answered5 .ensures) (rw (
+      le-ltb _ _ (at-if1 .if1 .left),
+      le-ltb _ _ (at-if2 .if2 .left),
+      sym (at-member .member .ensures)
+          ∙ at-if3 .if3 .left,
+      live,
+      sym (c .before .before .owns-one .ensures) ∙ c .before .if5 .taken,
+    ) refl)
 
 returns-6 : tie.Need-returns-6
 returns-6 c =
-    let m = c .before .before .before .before .before .before .before .before .before .before .before .before .before .before .args .t1 in
-    let live = read (λ (t : Thread). t .live) (m .threads) _ _ _ (c .before .before .before .before .before .before .before .before .index .ensures) (not-false _ (c .before .before .before .before .before .if4 .left)) in
-    refuse _ _ (c .answered6 .ensures) (rw (le-ltb _ _ (c .before .before .before .before .before .before .before .before .before .before .before .before .before .if1 .left), le-ltb _ _ (c .before .before .before .before .before .before .before .before .before .before .before .before .if2 .left), sym (c .before .before .before .before .before .before .before .before .before .before .member .ensures) ∙ c .before .before .before .before .before .before .before .before .before .if3 .left, live, sym (c .before .before .before .owns-one .ensures) ∙ c .before .before .if5 .left, eq-eqb _ _ (c .before .if6 .taken)) refl)
+    let at-if4 = c .before .before .before .before .before in
+    let at-index = at-if4 .before .before .before in
+    let at-if3 = at-index .before in
+    let at-member = at-if3 .before in
+    let at-if2 = at-member .before .before in
+    let at-if1 = at-if2 .before in
+    let start = at-if1 .before in
+    let m = start .args .t1 in
+    let live = read (λ (t : Thread). t .live) (m .threads) _ _ _ (at-index .index .ensures) (not-false _ (at-if4 .if4 .left)) in
+    refuse _ _ (c .answered6 .ensures) (rw (
+      le-ltb _ _ (at-if1 .if1 .left),
+      le-ltb _ _ (at-if2 .if2 .left),
+      sym (at-member .member .ensures)
+          ∙ at-if3 .if3 .left,
+      live,
+      sym (c .before .before .before .owns-one .ensures)
+          ∙ c .before .before .if5 .left,
+      eq-eqb _ _ (c .before .if6 .taken),
+    ) refl)
 
 index-requires-2 : tie.Need-index-requires-2
 index-requires-2 c κs = tt
@@ -85,28 +138,57 @@ index-requires-3 : tie.Need-index-requires-3
 index-requires-3 c κs = tt
 
 element-write-self : tie.Need-element-write-self
-element-write-self c = omega (arith, c .index3 .ensures, roomy (c .before .before .before .before .before .before .before .before .before .before))
+element-write-self c =
+    let place10 = c .before .before .before .before .before .before .before .before .before .before in
+    omega (arith, c .index3 .ensures, roomy place10)
 
 add-self : tie.Need-add-self
-add-self c = omega (arith, roomy (c .before .before .before .before .before .before .before .before .before .before))
+add-self c =
+    let place10 = c .before .before .before .before .before .before .before .before .before .before in
+    omega (arith, roomy place10)
 
 overtaken-requires : tie.Need-overtaken-requires
 overtaken-requires c κs =
-    let s = c .before .before .before .before .before .before .before .before .before .before .before .before .before .before .before in
-    choosable _ (gift-exact (s .args .t1) _ _ _ _ _ _ (c .before .index2 .ensures) (c .index3 .ensures) (roomy (c .before .before .before .before .before .before .before .before .before .before)) (sound-stored _ (s .pre)))
+    let place10 = c .before .before .before .before .before .before .before .before .before .before in
+    let start = place10 .before .before .before .before .before in
+    choosable _ (gift-exact (start .args .t1) _ _ _ _ _ _ (c .before .index2 .ensures) (c .index3 .ensures) (roomy place10)
+    (sound-stored _ (start .pre)))
 
 returns-7 : tie.Need-returns-7
 unfolding give
 returns-7 c =
-    let s = c .before .before .before .before .before .before .before .before .before .before .before .before .before .before .before .before in
-    let a = s .args in
+    let at-index2 = c .before .before in
+    let at-if5 = at-index2 .before .before in
+    let at-owns-one = at-if5 .before in
+    let at-if4 = at-owns-one .before .before in
+    let at-index = at-if4 .before .before .before in
+    let at-if3 = at-index .before in
+    let at-member = at-if3 .before in
+    let at-if2 = at-member .before .before in
+    let at-if1 = at-if2 .before in
+    let start = at-if1 .before in
+    let a = start .args in
     let m = a .t1 in
-    let full : length (m .order) ≡ 128 = simp length-map at (s .good .0 .1 .1 .1 .1 .0 .1 .0 .1) in
-    let live = read (λ (t : Thread). t .live) (m .threads) _ _ _ (c .before .before .before .before .before .before .before .before .before .before .index .ensures) (not-false _ (c .before .before .before .before .before .before .before .if4 .left)) in
-    accept (Give (a .t) (a .n) (a .priority) (a .quantum)) m (s .pre)
-    (rw (le-ltb _ _ (c .before .before .before .before .before .before .before .before .before .before .before .before .before .before .before .if1 .left), le-ltb _ _ (c .before .before .before .before .before .before .before .before .before .before .before .before .before .before .if2 .left), sym (c .before .before .before .before .before .before .before .before .before .before .before .before .member .ensures) ∙ c .before .before .before .before .before .before .before .before .before .before .before .if3 .left, live, sym (c .before .before .before .before .before .owns-one .ensures) ∙ c .before .before .before .before .if5 .left, ne-eqb _ _ (c .before .before .before .if6 .left)) refl)
+    let full : length (m .order) ≡ 128 = simp length-map at (start .good .0 .1 .1 .1 .1 .0 .1 .0 .1) in
+    let live = read (λ (t : Thread). t .live) (m .threads) _ _ _ (at-index .index .ensures) (not-false _ (at-if4 .if4 .left)) in
+    accept (Give (a .t) (a .n) (a .priority) (a .quantum)) m (start .pre)
+    (rw (
+      le-ltb _ _ (at-if1 .if1 .left),
+      le-ltb _ _ (at-if2 .if2 .left),
+      sym (at-member .member .ensures)
+          ∙ at-if3 .if3 .left,
+      live,
+      sym (at-owns-one .owns-one .ensures) ∙ at-if5 .if5 .left,
+      ne-eqb _ _ (c .before .before .before .if6 .left),
+    )
+    refl)
     (give (a .t) (a .n) (a .priority) (a .quantum) (shown m)) refl _
-    (given-to (a .t) (gift m (c .before .before .index2 .result) (c .before .index3 .result) (a .t) (a .n) (a .priority) (a .quantum) (c .before .before .index2 .ensures) (c .before .index3 .ensures) (roomy (c .before .before .before .before .before .before .before .before .before .before .before))) _ _ (gift-shown m (c .before .before .index2 .result) (c .before .index3 .result) (a .t) (a .n) (a .priority) (a .quantum) (c .before .before .index2 .ensures) (c .before .index3 .ensures) (roomy (c .before .before .before .before .before .before .before .before .before .before .before)) full) (c .overtaken .ensures))
+    (given-to (a .t) (gift m (at-index2 .index2 .result) (c .before .index3 .result) (a .t) (a .n) (a .priority) (a .quantum)
+    (at-index2 .index2 .ensures) (c .before .index3 .ensures) (roomy at-if3)) _ _
+    (gift-shown m (at-index2 .index2 .result) (c .before .index3 .result) (a .t) (a .n) (a .priority) (a .quantum)
+    (at-index2 .index2 .ensures) (c .before .index3 .ensures) (roomy at-if3) full) (c .overtaken .ensures))
 
 pub dispatch-give-spec : {M : Type 1} → statement M
-dispatch-give-spec = tie.close (tie.spec (λ _ _. tt) returns (λ _ _. tt) returns-2 member-requires (λ _ _. tt) returns-3 index-requires mul-thread element-copy-out-thread (λ _ _. tt) returns-4 owns-one-requires (λ _ _. tt) returns-5 (λ _ _. tt) returns-6 index-requires-2 mul-new element-set-from-new index-requires-3 element-write-self add-self overtaken-requires returns-7)
+dispatch-give-spec = tie.close (tie.spec (λ _ _. tt) returns (λ _ _. tt) returns-2 member-requires (λ _ _. tt) returns-3 index-requires
+    mul-thread element-copy-out-thread (λ _ _. tt) returns-4 owns-one-requires (λ _ _. tt) returns-5 (λ _ _. tt) returns-6 index-requires-2
+    mul-new element-set-from-new index-requires-3 element-write-self add-self overtaken-requires returns-7)

@@ -1,3 +1,4 @@
+-- Each refusal is the first that fits; past them the running server replies.
 use Prim.Native.Nat.{ℕ}
 use mathlib.Core.Path.{_≡_, refl, sym, _∙_, ap}
 use borrow.Author.Tests.{not-true, not-false}
@@ -29,11 +30,13 @@ index-requires c κs = search needs
 
 returns : tie.Need-returns
 returns c =
-    let s = c .before .before .before .before .before .before in
-    let m = s .args .t1 in
-    let full : length (m .threads) ≡ 128 = simp length-map at (s .good .0 .1 .1 .0 .1 .0 .1) in
-    let client = ap (λ (t : Thread). isServer (t .role)) (past (m .threads) _ _ freeThread full (c .before .before .index .ensures) (c .before .if1 .taken)) in
-    refuse _ _ (c .answered2 .ensures) (rw (c .before .before .before .before .running .given .1, client) refl)
+    let at-running = c .before .before .before .before in
+    let start = at-running .before .before in
+    let m = start .args .t1 in
+    let full : length (m .threads) ≡ 128 = simp length-map at (start .good .0 .1 .1 .0 .1 .0 .1) in
+    let client = ap (λ (t : Thread). isServer (t .role))
+    (past (m .threads) _ _ freeThread full (c .before .before .index .ensures) (c .before .if1 .taken)) in
+    refuse _ _ (c .answered2 .ensures) (rw (at-running .running .given .1, client) refl)
 
 mul-thread : tie.Need-mul-thread
 mul-thread c = search needs
@@ -46,15 +49,21 @@ is-server-requires c κs = search needs
 
 returns-2 : tie.Need-returns-2
 returns-2 c =
-    let m = c .before .before .before .before .before .before .before .before .before .args .t1 in
-    let client = read (λ (t : Thread). isServer (t .role)) (m .threads) _ _ _ (c .before .before .before .before .before .index .ensures) (sym (c .before .before .is-server .ensures) ∙ not-true _ (c .before .if2 .taken)) in
-    refuse _ _ (c .answered3 .ensures) (rw (c .before .before .before .before .before .before .before .running .given .1, client) refl)
+    let at-index = c .before .before .before .before .before in
+    let at-running = at-index .before .before in
+    let start = at-running .before .before in
+    let m = start .args .t1 in
+    let client = read (λ (t : Thread). isServer (t .role)) (m .threads) _ _ _ (at-index .index .ensures)
+    (sym (c .before .before .is-server .ensures) ∙ not-true _ (c .before .if2 .taken)) in
+    refuse _ _ (c .answered3 .ensures) (rw (at-running .running .given .1, client) refl)
 
 replied-requires : tie.Need-replied-requires
 replied-requires c κs = tt
 
 reply-to-requires : tie.Need-reply-to-requires
-reply-to-requires c κs = let s = c .before .before .before .before .before .before .before .before .before .before in choosable _ (threads-exact (s .args .t1) _ _ (sound-stored _ (s .pre)) (c .replied .ensures) (live-replied _ _))
+reply-to-requires c κs =
+    let start = c .before .before .before .before .before .before .before .before .before .before in
+    choosable _ (threads-exact (start .args .t1) _ _ (sound-stored _ (start .pre)) (c .replied .ensures) (live-replied _ _))
 
 returns-3 : tie.Need-returns-3
 returns-3 c = refuse _ _ (c .answered .ensures) (rw (c .before .enum-told .given .1) refl)
@@ -62,15 +71,22 @@ returns-3 c = refuse _ _ (c .answered .ensures) (rw (c .before .enum-told .given
 returns-4 : tie.Need-returns-4
 unfolding reply
 returns-4 c =
-    let s = c .before .before .before .before .before .before .before .before .before .before .before in
-    let m = s .args .t1 in
-    let run = c .before .before .before .before .before .before .before .before .before .running .given in
-    let server = read (λ (t : Thread). isServer (t .role)) (m .threads) _ _ _ (c .before .before .before .before .before .before .before .index .ensures) (sym (c .before .before .before .before .is-server .ensures) ∙ not-false _ (c .before .before .before .if2 .left)) in
-    let service = ap (λ (k : ℕ). serviceAt (m .threads) k) (c .before .before .before .before .before .before .before .index .ensures) in
-    accept Reply m (s .pre) (rw (run .1, server) refl)
-    (replyTo (run .0 .1 .0) (run .0 .1 .1 .0) (withThreads (replied (run .0 .0) (m .threads)) (shown m)) (serviceAt (m .threads) (c .before .before .before .before .before .before .before .index .result)))
-    (ap (replyTo (run .0 .1 .0) (run .0 .1 .1 .0) (withThreads (replied (run .0 .0) (m .threads)) (shown m))) service ∙ sym (ap (replyBy (shown m)) (run .1))) _
-    (said-of (λ u. replyTo (run .0 .1 .0) (run .0 .1 .1 .0) u (serviceAt (m .threads) (c .before .before .before .before .before .before .before .index .result))) (threadsTo _ m) _ _ (threads-shown m _ _ (c .before .replied .ensures)) (c .reply-to .ensures))
+    let at-is-server = c .before .before .before .before in
+    let at-index = at-is-server .before .before .before in
+    let at-running = at-index .before .before in
+    let start = at-running .before .before in
+    let m = start .args .t1 in
+    let run = at-running .running .given in
+    let server = read (λ (t : Thread). isServer (t .role)) (m .threads) _ _ _ (at-index .index .ensures)
+    (sym (at-is-server .is-server .ensures) ∙ not-false _ (c .before .before .before .if2 .left)) in
+    let service = ap (λ (k : ℕ). serviceAt (m .threads) k) (at-index .index .ensures) in
+    accept Reply m (start .pre) (rw (run .1, server) refl)
+    (replyTo (run .0 .1 .0) (run .0 .1 .1 .0) (withThreads (replied (run .0 .0) (m .threads)) (shown m))
+    (serviceAt (m .threads) (at-index .index .result)))
+    (ap (replyTo (run .0 .1 .0) (run .0 .1 .1 .0) (withThreads (replied (run .0 .0) (m .threads)) (shown m))) service
+    ∙ sym (ap (replyBy (shown m)) (run .1))) _
+    (said-of (λ u. replyTo (run .0 .1 .0) (run .0 .1 .1 .0) u (serviceAt (m .threads) (at-index .index .result))) (threadsTo _ m) _ _
+    (threads-shown m _ _ (c .before .replied .ensures)) (c .reply-to .ensures))
 
 pub dispatch-reply-spec : {M : Type 1} → statement M
 dispatch-reply-spec =

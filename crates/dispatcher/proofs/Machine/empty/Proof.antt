@@ -1,3 +1,4 @@
+-- Every table is filled with its free value.
 use mathlib.Core.Path.{refl}
 use Rattle.dispatcher.proofs.Machine.empty.Statement.{statement}
 use Rattle.dispatcher.proofs.Machine.empty.Tie as tie

@@ -1,3 +1,4 @@
+-- The service and the count decide whether the caller runs or a choice follows.
 use mathlib.Core.Path.{refl}
 use borrow.Author.Tests.{lt-ltb, le-ltb}
 use Rattle.dispatcher.proofs.Answering.{stands}
@@ -20,12 +21,17 @@ sub-t10 c = search needs
 
 returns : tie.Need-returns
 returns c =
-    let s = c .before .before .before .before .before .before .before .before in
-    let m = s .args .self in
-    rw (c .before .before .before .before .before .before .service .given .1, lt-ltb _ _ (c .before .before .before .before .if1 .taken)) (stands (c .answered .ensures) refl (running-exact m _ _ _ (s .pre .exact) refl refl))
+    let at-if1 = c .before .before .before .before in
+    let at-service = at-if1 .before .before in
+    let start = at-service .before .before in
+    let m = start .args .self in
+    rw (at-service .service .given .1, lt-ltb _ _ (at-if1 .if1 .taken))
+    (stands (c .answered .ensures) refl (running-exact m _ _ _ (start .pre .exact) refl refl))
 
 choose-requires-2 : tie.Need-choose-requires-2
-choose-requires-2 c κs = c .before .before .before .before .pre
+choose-requires-2 c κs =
+    let start = c .before .before .before .before in
+    start .pre
 
 enum-told-2 : tie.Need-enum-told-2
 enum-told-2 c = search needs

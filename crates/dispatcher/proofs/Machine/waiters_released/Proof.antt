@@ -1,3 +1,4 @@
+-- Nobody was On the thread, or the topmost of them joined Queue.
 use Rattle.dispatcher.proofs.Stored.{turns-fit}
 use Rattle.dispatcher.proofs.Settles.{none-released, one-released, freed-exact}
 use borrow.Author.Needs.{needs}
@@ -17,13 +18,23 @@ released-requires : tie.Need-released-requires
 released-requires c κs = tt
 
 overtaken-requires : tie.Need-overtaken-requires
-overtaken-requires c κs = freed-exact _ _ _ _ _ (c .before .before .before .before .topmost .ensures) (c .before .before .first .given .1) (c .released .ensures) (c .before .before .before .before .before .before .before .pre)
+overtaken-requires c κs =
+    let at-topmost = c .before .before .before .before in
+    let start = at-topmost .before .before .before in
+    freed-exact _ _ _ _ _ (at-topmost .topmost .ensures) (c .before .before .first .given .1) (c .released .ensures) (start .pre)
 
 returns : tie.Need-returns
-returns c = none-released _ _ _ _ (c .answered .ensures) (c .before .before .before .topmost .ensures) (c .before .enum-told .given .1) (c .before .before .before .before .before .before .pre .exact)
+returns c =
+    let start = c .before .before .before .before .before .before in
+    none-released _ _ _ _ (c .answered .ensures) (c .before .before .before .topmost .ensures) (c .before .enum-told .given .1)
+    (start .pre .exact)
 
 returns-2 : tie.Need-returns-2
-returns-2 c = one-released _ (c .before .before .before .before .before .before .before .before .args .self) _ _ _ (c .before .before .before .before .before .topmost .ensures) (c .before .before .before .first .given .1) (c .before .released .ensures) _ (c .overtaken .ensures)
+returns-2 c =
+    let at-topmost = c .before .before .before .before .before in
+    let start = at-topmost .before .before .before in
+    one-released _ (start .args .self) _ _ _ (at-topmost .topmost .ensures) (c .before .before .before .first .given .1)
+    (c .before .released .ensures) _ (c .overtaken .ensures)
 
 pub waiters-released-spec : {M : Type 1} → statement M
 waiters-released-spec =

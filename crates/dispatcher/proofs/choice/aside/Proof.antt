@@ -1,3 +1,4 @@
+-- The verdict says where.
 use borrow.Author.Needs.{needs}
 use Rattle.dispatcher.proofs.choice.aside.Statement.{statement}
 use Rattle.dispatcher.proofs.choice.aside.Tie as tie

@@ -1,3 +1,4 @@
+-- Both directions are asked of the same thread.
 use borrow.Author.Needs.{needs}
 use Rattle.soundness.proofs.calls.call_good.Statement.{statement}
 use Rattle.soundness.proofs.calls.call_good.Tie as tie

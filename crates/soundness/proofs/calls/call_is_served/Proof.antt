@@ -1,3 +1,4 @@
+-- Only a Calling thread is asked for its server's service.
 use borrow.Author.Needs.{needs}
 use Rattle.soundness.proofs.calls.call_is_served.Statement.{statement}
 use Rattle.soundness.proofs.calls.call_is_served.Tie as tie

@@ -1,3 +1,4 @@
+-- Only a server with a caller is asked for that caller's hold.
 use borrow.Author.Needs.{needs}
 use Rattle.soundness.proofs.calls.served_is_calling.Statement.{statement}
 use Rattle.soundness.proofs.calls.served_is_calling.Tie as tie

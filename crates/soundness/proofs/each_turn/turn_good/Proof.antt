@@ -35,7 +35,8 @@ returns c =
     let read = owned .before .before .timeslice-at .ensures in
     let start = owned .before .before .before in
     let table = start .args .timeslices in
-    let live = ap (λ t. t .live) (owned .before .thread-at .ensures) ∙ slice-test (λ (s : Slice). liveAt (start .args .threads) (s .owner)) table _ _ read in
+    let live = ap (λ t. t .live) (owned .before .thread-at .ensures)
+    ∙ slice-test (λ (s : Slice). liveAt (start .args .threads) (s .owner)) table _ _ read in
     let numbered = ltb (start .args .t) 128 in
     let range = ranged .before .in-range .ensures ∙ slice-test inRange table _ _ read in
     both-test _ _ _ _ _ (c .both3 .ensures)

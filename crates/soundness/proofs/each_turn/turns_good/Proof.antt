@@ -9,7 +9,8 @@ use Rattle.soundness.proofs.each_turn.turns_good.Statement.{statement}
 use Rattle.soundness.proofs.each_turn.turns_good.Tie as tie
 
 abbrev Inv-loop : tie.InvT-loop
-Inv-loop threads timeslices lives live order n i₀ i = Along (λ l. all (λ t. turnTest threads timeslices order lives live t) l) live order n i
+Inv-loop threads timeslices lives live order n i₀ i = Along (λ l. all (λ t. turnTest threads timeslices order lives live t) l) live order n
+    i
 
 abbrev μ-loop : tie.MeasureT-loop
 μ-loop threads timeslices lives live order n i₀ i = n - i
@@ -36,16 +37,20 @@ loop-again : tie.Need-loop-again Inv-loop μ-loop
 loop-again c =
     let turn = c .before .before in
     let start = turn .before .before .before in
-    all-more _ _ _ _ _ (start .good .1 .1 .0 .1 .0 .1) (turn .before .loop .inv) _ (turn .loop-test .taken) (c .before .turn-good .ensures) (c .if1 .taken)
+    all-more _ _ _ _ _ (start .good .1 .1 .0 .1 .0 .1) (turn .before .loop .inv) _ (turn .loop-test .taken) (c .before .turn-good .ensures)
+    (c .if1 .taken)
 
 returns : tie.Need-returns Inv-loop μ-loop
 returns c =
     let turn = c .before .before in
     let start = turn .before .before .before in
-    all-fails _ _ _ _ _ (start .good .1 .1 .0 .1 .0 .1) (turn .before .loop .inv) _ (turn .loop-test .taken) (c .before .turn-good .ensures) (c .if1 .left)
+    all-fails _ _ _ _ _ (start .good .1 .1 .0 .1 .0 .1) (turn .before .loop .inv) _ (turn .loop-test .taken) (c .before .turn-good .ensures)
+    (c .if1 .left)
 
 returns-2 : tie.Need-returns-2 Inv-loop μ-loop
-returns-2 c = let start = c .before .before .before in all-passed _ _ _ _ _ (start .good .1 .1 .0 .1 .0 .1) (c .before .loop .inv) (c .loop-test .left)
+returns-2 c =
+    let start = c .before .before .before in
+    all-passed _ _ _ _ _ (start .good .1 .1 .0 .1 .0 .1) (c .before .loop .inv) (c .loop-test .left)
 
 pub turns-good-spec : {M : Type 1} → statement M
 turns-good-spec =

@@ -1,3 +1,4 @@
+-- One of two tests.
 use borrow.Author.Needs.{needs}
 use Rattle.soundness.proofs.free_slots.live_or_free.Statement.{statement}
 use Rattle.soundness.proofs.free_slots.live_or_free.Tie as tie

@@ -1,3 +1,4 @@
+-- Three tests of one record, joined as the definition joins them.
 use borrow.Author.Needs.{needs}
 use Rattle.soundness.proofs.free_slots.thread_free.Statement.{statement}
 use Rattle.soundness.proofs.free_slots.thread_free.Tie as tie
@@ -18,7 +19,16 @@ both-requires-2 : tie.Need-both-requires-2
 both-requires-2 c κs = search needs
 
 returns : tie.Need-returns
-returns c = simp (← c .before .before .before .before .is-server .ensures, ← c .before .before .before .is-ready .ensures, ← c .before .before .is-nobody .ensures, ← c .before .both .ensures, ← c .both2 .ensures)
+returns c =
+    let at-is-server = c .before .before .before .before in
+    simp (
+      ← at-is-server .is-server .ensures,
+      ← c .before .before .before .is-ready .ensures,
+      ← c .before .before .is-nobody .ensures,
+      ←
+          c .before .both .ensures,
+      ← c .both2 .ensures,
+    )
 
 pub thread-free-spec : {M : Type 1} → statement M
 thread-free-spec =

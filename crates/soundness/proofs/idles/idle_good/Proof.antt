@@ -1,3 +1,4 @@
+-- Both clauses are tests of one record.
 use borrow.Author.Needs.{needs}
 use Rattle.soundness.proofs.idles.idle_good.Statement.{statement}
 use Rattle.soundness.proofs.idles.idle_good.Tie as tie
@@ -24,7 +25,20 @@ both-requires-2 : tie.Need-both-requires-2
 both-requires-2 c κs = search needs
 
 returns : tie.Need-returns
-returns c = simp (← c .before .before .before .before .before .before .is-idle .ensures, ← c .before .before .before .before .before .is-server .ensures, ← c .before .before .before .before .is-nobody .ensures, ← c .before .before .before .both .ensures, ← c .before .before .agree .ensures, ← c .before .implies .ensures, ← c .both2 .ensures)
+returns c =
+    let at-is-nobody = c .before .before .before .before in
+    let at-is-server = at-is-nobody .before in
+    let at-is-idle = at-is-server .before in
+    simp (
+      ← at-is-idle .is-idle .ensures,
+      ← at-is-server .is-server .ensures,
+      ← at-is-nobody .is-nobody .ensures,
+      ←
+          c .before .before .before .both .ensures,
+      ← c .before .before .agree .ensures,
+      ← c .before .implies .ensures,
+      ← c .both2 .ensures,
+    )
 
 pub idle-good-spec : {M : Type 1} → statement M
 idle-good-spec =

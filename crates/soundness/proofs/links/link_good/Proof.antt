@@ -1,3 +1,4 @@
+-- Only a thread with a link is asked where it leads.
 use borrow.Author.Needs.{needs}
 use Rattle.soundness.proofs.links.link_good.Statement.{statement}
 use Rattle.soundness.proofs.links.link_good.Tie as tie

@@ -13,7 +13,8 @@ use Rattle.soundness.proofs.owners.owners.Statement.{statement}
 use Rattle.soundness.proofs.owners.owners.Tie as tie
 
 abbrev Inv-loop : tie.InvT-loop
-Inv-loop timeslices live order listed₀ n i₀ listed i = (n ≡ entriesOf live) × (i ≤ n) × (long : length order ≡ 128) × Mapped (λ t. ownerAt (map sliceOf timeslices) t) order long listed i
+Inv-loop timeslices live order listed₀ n i₀ listed i = (n ≡ entriesOf live) × (i ≤ n) × (long : length order ≡ 128) × Mapped
+    (λ t. ownerAt (map sliceOf timeslices) t) order long listed i
 
 abbrev μ-loop : tie.MeasureT-loop
 μ-loop timeslices live order listed₀ n i₀ listed i = n - i

@@ -15,7 +15,8 @@ returns : tie.Need-returns
 returns c =
     let start = c .before .before in
     let laid = c .before .owners in
-    c .listed-once .ensures ∙ ap distinct (mapped-front _ (start .args .order) (start .good .1 .0 .1 .0 .1) (start .args .live) _ (laid .ensures))
+    c .listed-once .ensures ∙ ap distinct (mapped-front _ (start .args .order) (start .good .1 .0 .1 .0 .1) (start .args .live) _
+    (laid .ensures))
 
 pub owners-apart-spec : {M : Type 1} → statement M
 owners-apart-spec = tie.close (tie.spec owners-requires listed-once-requires returns)

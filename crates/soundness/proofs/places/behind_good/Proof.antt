@@ -1,3 +1,4 @@
+-- The three tests are of the leader read at that number.
 use mathlib.Core.Path.{_∙_}
 use Rattle.rules.specs.Release.{inQueue}
 use Rattle.soundness.proofs.Clauses.{both-test, place-test}
@@ -25,9 +26,12 @@ both-requires-2 c κs = search needs
 
 returns : tie.Need-returns
 returns c =
-    let s = c .before .before .before .before .before .before in
-    let queued = c .before .before .before .in-set .ensures ∙ place-test inQueue (s .args .timeslices) _ _ (c .before .before .before .before .before .timeslice-at .ensures) in
-    let first = both-test _ _ _ _ _ (c .before .before .both .ensures) (c .before .before .before .before .member .ensures) queued in
+    let at-member = c .before .before .before .before in
+    let at-timeslice-at = at-member .before in
+    let start = at-timeslice-at .before in
+    let queued = c .before .before .before .in-set .ensures
+    ∙ place-test inQueue (start .args .timeslices) _ _ (at-timeslice-at .timeslice-at .ensures) in
+    let first = both-test _ _ _ _ _ (c .before .before .both .ensures) (at-member .member .ensures) queued in
     both-test _ _ _ _ _ (c .both2 .ensures) first (c .before .stands-above .ensures)
 
 pub behind-good-spec : {M : Type 1} → statement M

@@ -47,7 +47,8 @@ returns : tie.Need-returns
 returns c =
     let read = c .before .before in
     let start = read .before in
-    place-is (start .args .threads) (start .args .timeslices) (start .args .order) (start .args .live-threads) (start .args .live) _ _ Queue (read .timeslice-at .ensures) (c .enum-told .given .1)
+    place-is (start .args .threads) (start .args .timeslices) (start .args .order) (start .args .live-threads) (start .args .live) _ _ Queue
+    (read .timeslice-at .ensures) (c .enum-told .given .1)
 
 returns-2 : tie.Need-returns-2
 returns-2 c =
@@ -55,7 +56,8 @@ returns-2 c =
     let read = told .before .before in
     let start = read .before in
     c .behind-good .ensures
-    ∙ place-is (start .args .threads) (start .args .timeslices) (start .args .order) (start .args .live-threads) (start .args .live) _ _ (Behind _) (read .timeslice-at .ensures) (told .place .given .1)
+    ∙ place-is (start .args .threads) (start .args .timeslices) (start .args .order) (start .args .live-threads) (start .args .live) _ _
+    (Behind _) (read .timeslice-at .ensures) (told .place .given .1)
 
 returns-3 : tie.Need-returns-3
 returns-3 c =
@@ -66,7 +68,8 @@ returns-3 c =
     let chain = chain-is _ (start .args .threads) (start .args .timeslices) _ _ _ (read .timeslice-at .ensures) (walked .walk .ensures) in
     let said = c .before .verdict-of in
     verdict-test (start .args .threads) (waitsAt _) _ _ (said .result) _ (c .waits-at .ensures) (said .ensures) chain
-    ∙ place-is (start .args .threads) (start .args .timeslices) (start .args .order) _ (start .args .live) _ _ (On _) (read .timeslice-at .ensures) (told .place2 .given .1)
+    ∙ place-is (start .args .threads) (start .args .timeslices) (start .args .order) _ (start .args .live) _ _ (On _)
+    (read .timeslice-at .ensures) (told .place2 .given .1)
 
 returns-4 : tie.Need-returns-4
 returns-4 c =
@@ -77,7 +80,8 @@ returns-4 c =
     let chain = chain-is _ (start .args .threads) (start .args .timeslices) _ _ _ (read .timeslice-at .ensures) (walked .walk2 .ensures) in
     let said = c .before .verdict-of2 in
     verdict-test (start .args .threads) (λ d v. isStalls v) _ _ (said .result) _ (c .is-stalls .ensures) (said .ensures) chain
-    ∙ place-is (start .args .threads) (start .args .timeslices) (start .args .order) _ (start .args .live) _ _ Stalled (read .timeslice-at .ensures) (told .enum-told2 .given .1)
+    ∙ place-is (start .args .threads) (start .args .timeslices) (start .args .order) _ (start .args .live) _ _ Stalled
+    (read .timeslice-at .ensures) (told .enum-told2 .given .1)
 
 pub place-good-spec : {M : Type 1} → statement M
 place-good-spec =

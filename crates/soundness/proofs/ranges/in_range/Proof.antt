@@ -1,3 +1,4 @@
+-- Priority and quantum are in range by their types, so what is left decides.
 use Rattle.tables.specs.Timeslices.{sliceOf}
 use Rattle.soundness.proofs.Clauses.{none-left, some-left}
 use native.Mathlib.Omega.{arith}

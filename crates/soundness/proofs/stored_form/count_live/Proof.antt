@@ -1,3 +1,4 @@
+-- The count so far and the live threads still to come make L.
 use Prim.Native.Nat.{_-_}
 use native.Mathlib.Omega.{arith}
 use borrow.Author.Needs.{needs}
@@ -30,10 +31,15 @@ loop-less : tie.Need-loop-less Inv-loop μ-loop
 loop-less c = omega arith
 
 loop-again : tie.Need-loop-again Inv-loop μ-loop
-loop-again c = let s = c .before .before .before .before in one-counted _ _ _ _ (s .good .0 .1 .0 .1) (c .before .before .before .loop .inv) (c .before .before .loop-test .taken) (c .one-more-if .ensures)
+loop-again c =
+    let start = c .before .before .before .before in
+    one-counted _ _ _ _ (start .good .0 .1 .0 .1) (c .before .before .before .loop .inv) (c .before .before .loop-test .taken)
+    (c .one-more-if .ensures)
 
 returns : tie.Need-returns Inv-loop μ-loop
-returns c = let s = c .before .before in all-counted _ _ _ (s .good .0 .1 .0 .1) (c .before .loop .inv) (c .loop-test .left)
+returns c =
+    let start = c .before .before in
+    all-counted _ _ _ (start .good .0 .1 .0 .1) (c .before .loop .inv) (c .loop-test .left)
 
 pub count-live-spec : {M : Type 1} → statement M
 count-live-spec =

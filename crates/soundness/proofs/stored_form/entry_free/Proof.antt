@@ -19,13 +19,16 @@ array-read-entry : tie.Need-array-read-entry
 array-read-entry c = search needs
 
 returns-2 : tie.Need-returns-2
-returns-2 c = let asked = c .before .before in rw (le-ltb _ _ (asked .if1 .left), ← c .before .index .ensures) refl
+returns-2 c =
+    let asked = c .before .before in
+    rw (le-ltb _ _ (asked .if1 .left), ← c .before .index .ensures) refl
 
 returns-3 : tie.Need-returns-3
 returns-3 c =
     let asked = c .before .before in
     let start = asked .before in
-    rw (le-ltb _ _ (asked .if1 .left), past (start .args .t1) _ _ 0 (start .good .0 .1 .0 .1) (c .before .index .ensures) (c .if2 .left)) refl
+    rw (le-ltb _ _ (asked .if1 .left), past (start .args .t1) _ _ 0 (start .good .0 .1 .0 .1) (c .before .index .ensures) (c .if2 .left))
+    refl
 
 pub entry-free-spec : {M : Type 1} → statement M
 entry-free-spec = tie.close (tie.spec returns index-requires array-read-entry returns-2 returns-3)

@@ -1,3 +1,4 @@
+-- A live thread counts.
 use native.Mathlib.Numerals.{add-one}
 use borrow.Author.Needs.{needs}
 use Rattle.soundness.proofs.stored_form.one_more_if.Statement.{statement}

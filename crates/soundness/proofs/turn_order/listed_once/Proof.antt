@@ -47,7 +47,9 @@ loop-again c =
     once-more _ _ _ _ (start .good .0 .1 .0 .1) (turn .before .loop .inv) _ (turn .loop-test .taken) later (c .if1 .left)
 
 returns-2 : tie.Need-returns-2 Inv-loop μ-loop
-returns-2 c = let start = c .before .before .before in all-once _ _ _ _ (start .good .0 .1 .0 .1) (c .before .loop .inv) (c .loop-test .left)
+returns-2 c =
+    let start = c .before .before .before in
+    all-once _ _ _ _ (start .good .0 .1 .0 .1) (c .before .loop .inv) (c .loop-test .left)
 
 pub listed-once-spec : {M : Type 1} → statement M
 listed-once-spec =

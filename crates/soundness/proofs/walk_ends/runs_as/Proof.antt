@@ -1,3 +1,4 @@
+-- Only a verdict that lets it run is asked for end and count.
 use borrow.Author.Tests.{eq-eqb, ne-eqb}
 use borrow.Author.Needs.{needs}
 use Rattle.soundness.proofs.walk_ends.runs_as.Statement.{statement}

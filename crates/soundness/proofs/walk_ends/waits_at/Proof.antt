@@ -1,3 +1,4 @@
+-- Only a verdict that it waits is asked for the end.
 use borrow.Author.Needs.{needs}
 use Rattle.soundness.proofs.walk_ends.waits_at.Statement.{statement}
 use Rattle.soundness.proofs.walk_ends.waits_at.Tie as tie

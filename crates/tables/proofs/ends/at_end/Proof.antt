@@ -1,3 +1,4 @@
+-- The hold decides, for Idle with the number of links.
 use borrow.Author.Tests.{le-leb, le-ltb, lt-leb, lt-ltb}
 use borrow.Author.Needs.{needs}
 use Rattle.tables.proofs.ends.at_end.Statement.{statement}

@@ -1,3 +1,4 @@
+-- A loop is told apart first.
 use borrow.Author.Needs.{needs}
 use Rattle.tables.proofs.ends.judged.Statement.{statement}
 use Rattle.tables.proofs.ends.judged.Tie as tie

@@ -10,7 +10,8 @@ use Rattle.tables.proofs.heights.fill.Statement.{statement}
 use Rattle.tables.proofs.heights.fill.Tie as tie
 
 abbrev Inv-loop : tie.InvT-loop
-Inv-loop codes₀ heights₀ live timeslices order n next₀ codes heights next = Filling timeslices order live n codes₀ heights₀ codes heights next
+Inv-loop codes₀ heights₀ live timeslices order n next₀ codes heights next = Filling timeslices order live n codes₀ heights₀ codes heights
+    next
 
 abbrev μ-loop : tie.MeasureT-loop
 μ-loop codes₀ heights₀ live timeslices order n next₀ codes heights next = n - next
@@ -40,29 +41,42 @@ code-requires : tie.Need-code-requires Inv-loop μ-loop
 code-requires c κs = tt
 
 mul-codes : tie.Need-mul-codes Inv-loop μ-loop
-mul-codes c = let inv = c .before .before .before .before .before .loop .inv in omega (arith, inv .last)
+mul-codes c =
+    let turn = c .before .before .before .before .before in
+    let inv = turn .loop .inv in omega (arith, inv .last)
 
 element-write-codes : tie.Need-element-write-codes Inv-loop μ-loop
-element-write-codes c = let inv = c .before .before .before .before .before .loop .inv in omega (arith, inv .last)
+element-write-codes c =
+    let turn = c .before .before .before .before .before in
+    let inv = turn .loop .inv in omega (arith, inv .last)
 
 height-requires : tie.Need-height-requires Inv-loop μ-loop
-height-requires c κs = let inv = c .before .before .before .before .before .loop .inv in omega (arith, inv .last)
+height-requires c κs =
+    let turn = c .before .before .before .before .before in
+    let inv = turn .loop .inv in omega (arith, inv .last)
 
 mul-heights : tie.Need-mul-heights Inv-loop μ-loop
-mul-heights c = let inv = c .before .before .before .before .before .before .loop .inv in omega (arith, inv .last)
+mul-heights c =
+    let turn = c .before .before .before .before .before .before in
+    let inv = turn .loop .inv in omega (arith, inv .last)
 
 element-write-heights : tie.Need-element-write-heights Inv-loop μ-loop
-element-write-heights c = let inv = c .before .before .before .before .before .before .loop .inv in omega (arith, inv .last)
+element-write-heights c =
+    let turn = c .before .before .before .before .before .before in
+    let inv = turn .loop .inv in omega (arith, inv .last)
 
 loop-less : tie.Need-loop-less Inv-loop μ-loop
-loop-less c = let inv = c .before .before .before .before .before .before .loop .inv in omega (arith, inv .last)
+loop-less c =
+    let turn = c .before .before .before .before .before .before in
+    let inv = turn .loop .inv in omega (arith, inv .last)
 
 loop-again : tie.Need-loop-again Inv-loop μ-loop
 loop-again c =
-    let turn = c .before .before .before .before .before in
+    let at-index = c .before .before .before .before in
+    let turn = at-index .before in
     let start = turn .before .before .before in
     fill-one (start .args .t3) (start .args .t4) _ _ _ _ _ _ _ _ _ _ _ (turn .before .loop .inv) (turn .loop-test .taken)
-    (c .before .before .before .before .index .ensures) refl (c .before .code .ensures) (c .height .ensures)
+    (at-index .index .ensures) refl (c .before .code .ensures) (c .height .ensures)
 
 mul-codes-2 : tie.Need-mul-codes-2 Inv-loop μ-loop
 mul-codes-2 c = let inv = c .before .before .before .loop .inv in omega (arith, inv .last)
@@ -74,13 +88,19 @@ height-requires-2 : tie.Need-height-requires-2 Inv-loop μ-loop
 height-requires-2 c κs = let inv = c .before .before .before .loop .inv in omega (arith, inv .last)
 
 mul-heights-2 : tie.Need-mul-heights-2 Inv-loop μ-loop
-mul-heights-2 c = let inv = c .before .before .before .before .loop .inv in omega (arith, inv .last)
+mul-heights-2 c =
+    let turn = c .before .before .before .before in
+    let inv = turn .loop .inv in omega (arith, inv .last)
 
 element-write-heights-2 : tie.Need-element-write-heights-2 Inv-loop μ-loop
-element-write-heights-2 c = let inv = c .before .before .before .before .loop .inv in omega (arith, inv .last)
+element-write-heights-2 c =
+    let turn = c .before .before .before .before in
+    let inv = turn .loop .inv in omega (arith, inv .last)
 
 loop-less-2 : tie.Need-loop-less-2 Inv-loop μ-loop
-loop-less-2 c = let inv = c .before .before .before .before .loop .inv in omega (arith, inv .last)
+loop-less-2 c =
+    let turn = c .before .before .before .before in
+    let inv = turn .loop .inv in omega (arith, inv .last)
 
 loop-again-2 : tie.Need-loop-again-2 Inv-loop μ-loop
 loop-again-2 c =

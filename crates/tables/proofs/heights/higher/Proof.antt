@@ -1,3 +1,4 @@
+-- The larger of two.
 use borrow.Author.Tests.{lt-ltb, le-ltb}
 use Rattle.tables.proofs.heights.higher.Statement.{statement}
 use Rattle.tables.proofs.heights.higher.Tie as tie

@@ -42,7 +42,9 @@ loop-less : tie.Need-loop-less Inv-loop μ-loop
 loop-less c = omega arith
 
 loop-again : tie.Need-loop-again Inv-loop μ-loop
-loop-again c = seek-one _ _ _ _ _ _ _ _ _ (c .before .before .before .before .before .loop .inv) (omega arith) (c .before .weight .ensures) (c .higher .ensures)
+loop-again c =
+    let turn = c .before .before .before .before .before in
+    seek-one _ _ _ _ _ _ _ _ _ (turn .loop .inv) (omega arith) (c .before .weight .ensures) (c .higher .ensures)
 
 returns : tie.Need-returns Inv-loop μ-loop
 returns c = sought _ _ _ _ _ _ (c .before .loop .inv) (c .loop-test .left)

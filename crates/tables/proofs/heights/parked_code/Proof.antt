@@ -1,3 +1,4 @@
+-- Only the parked timeslice's code changes.
 use borrow.Author.Tests.{eq-eqb, ne-eqb}
 use Rattle.tables.proofs.heights.parked_code.Statement.{statement}
 use Rattle.tables.proofs.heights.parked_code.Tie as tie

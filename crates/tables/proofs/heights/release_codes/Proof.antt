@@ -31,16 +31,24 @@ released-code-requires : tie.Need-released-code-requires Inv-loop μ-loop
 released-code-requires c κs = tt
 
 mul-codes : tie.Need-mul-codes Inv-loop μ-loop
-mul-codes c = let inv = c .before .before .before .before .loop .inv in omega (arith, inv .last)
+mul-codes c =
+    let turn = c .before .before .before .before in
+    let inv = turn .loop .inv in omega (arith, inv .last)
 
 element-write-codes : tie.Need-element-write-codes Inv-loop μ-loop
-element-write-codes c = let inv = c .before .before .before .before .loop .inv in omega (arith, inv .last)
+element-write-codes c =
+    let turn = c .before .before .before .before in
+    let inv = turn .loop .inv in omega (arith, inv .last)
 
 add-i : tie.Need-add-i Inv-loop μ-loop
-add-i c = let inv = c .before .before .before .before .loop .inv in omega (arith, inv .last)
+add-i c =
+    let turn = c .before .before .before .before in
+    let inv = turn .loop .inv in omega (arith, inv .last)
 
 loop-less : tie.Need-loop-less Inv-loop μ-loop
-loop-less c = let inv = c .before .before .before .before .loop .inv in omega (arith, inv .last)
+loop-less c =
+    let turn = c .before .before .before .before in
+    let inv = turn .loop .inv in omega (arith, inv .last)
 
 loop-again : tie.Need-loop-again Inv-loop μ-loop
 loop-again c =

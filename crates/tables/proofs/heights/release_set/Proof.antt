@@ -27,7 +27,8 @@ returns c =
     let searched = c .before .before in
     let coded = searched .before .before in
     let start = coded .before in
-    codes-none _ _ _ _ (start .args .set) _ (searched .top-of .result) (coded .code .ensures) (searched .top-of .ensures) (c .enum-told .given .1)
+    codes-none _ _ _ _ (start .args .set) _ (searched .top-of .result) (coded .code .ensures) (searched .top-of .ensures)
+    (c .enum-told .given .1)
 
 returns-2 : tie.Need-returns-2
 returns-2 c =

@@ -1,3 +1,4 @@
+-- Only a code of the set changes, by whether it is the topmost one's.
 use borrow.Author.Tests.{eq-eqb, ne-eqb}
 use Rattle.tables.proofs.heights.released_code.Statement.{statement}
 use Rattle.tables.proofs.heights.released_code.Tie as tie

@@ -20,7 +20,8 @@ returns c =
     let start = coded .before .before .before .before in
     let codes = coded-by (start .args .timeslices) (start .args .t2) (start .args .live) _ _ _ _ refl refl (filled .0) (filled .1) in
     c .top-of .ensures
-    ∙ rw (coded .code .ensures) (top-is (start .args .timeslices) (start .args .t2) (start .args .live) _ _ (start .good .1 .0 .1 .0 .1) codes (start .args .set))
+    ∙ rw (coded .code .ensures) (top-is (start .args .timeslices) (start .args .t2) (start .args .live) _ _ (start .good .1 .0 .1 .0 .1)
+    codes (start .args .set))
 
 pub topmost-spec : {M : Type 1} → statement M
 topmost-spec = tie.close (tie.spec fill-requires code-requires top-of-requires returns)

@@ -1,3 +1,4 @@
+-- A height counts only in its set.
 use borrow.Author.Tests.{eq-eqb, ne-eqb}
 use Rattle.tables.proofs.heights.weight.Statement.{statement}
 use Rattle.tables.proofs.heights.weight.Tie as tie

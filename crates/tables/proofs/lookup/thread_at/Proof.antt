@@ -1,3 +1,4 @@
+-- Past the end stands the free thread.
 use Prim.Native.Nat.{ℕ}
 use mathlib.Core.Path.{ap, sym}
 use lib.ListN.{getD}
@@ -17,10 +18,14 @@ array-copy-out-t : tie.Need-array-copy-out-t
 array-copy-out-t c = search needs
 
 returns : tie.Need-returns
-returns c = let s = c .before .before .before in ap (λ (i : ℕ). getD (s .args .t1) i freeThread) (c .before .before .index .ensures)
+returns c =
+    let start = c .before .before .before in
+    ap (λ (i : ℕ). getD (start .args .t1) i freeThread) (c .before .before .index .ensures)
 
 returns-2 : tie.Need-returns-2
-returns-2 c = let s = c .before .before in sym (past (s .args .t1) _ _ freeThread (s .good .0 .1 .0 .1) (c .before .index .ensures) (c .if1 .left))
+returns-2 c =
+    let start = c .before .before in
+    sym (past (start .args .t1) _ _ freeThread (start .good .0 .1 .0 .1) (c .before .index .ensures) (c .if1 .left))
 
 pub thread-at-spec : {M : Type 1} → statement M
 thread-at-spec = tie.close (tie.spec index-requires mul-t array-copy-out-t returns returns-2)

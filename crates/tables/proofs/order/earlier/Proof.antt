@@ -1,3 +1,4 @@
+-- The first entry that is one of the two decides.
 use Prim.Native.Nat.{_-_}
 use mathlib.Core.Path.{refl}
 use native.Mathlib.Omega.{arith}
@@ -24,11 +25,17 @@ array-read-t c = omega arith
 
 returns : tie.Need-returns Inv-loop μ-loop
 unfolding earlierOf
-returns c = let s = c .before .before .before .before in rw (eq-eqb _ _ (c .if1 .taken)) at (here _ _ _ _ _ (s .good .0 .1 .0 .1) (c .before .before .loop .inv) (c .before .loop-test .taken))
+returns c =
+    let start = c .before .before .before .before in
+    rw (eq-eqb _ _ (c .if1 .taken)) at (here _ _ _ _ _ (start .good .0 .1 .0 .1) (c .before .before .loop .inv)
+    (c .before .loop-test .taken))
 
 returns-2 : tie.Need-returns-2 Inv-loop μ-loop
 unfolding earlierOf
-returns-2 c = let s = c .before .before .before .before .before in rw (ne-eqb _ _ (c .before .if1 .left), eq-eqb _ _ (c .if2 .taken)) at (here _ _ _ _ _ (s .good .0 .1 .0 .1) (c .before .before .before .loop .inv) (c .before .before .loop-test .taken))
+returns-2 c =
+    let start = c .before .before .before .before .before in
+    rw (ne-eqb _ _ (c .before .if1 .left), eq-eqb _ _ (c .if2 .taken)) at
+    (here _ _ _ _ _ (start .good .0 .1 .0 .1) (c .before .before .before .loop .inv) (c .before .before .loop-test .taken))
 
 add-i : tie.Need-add-i Inv-loop μ-loop
 add-i c = omega arith
@@ -38,11 +45,16 @@ loop-less c = omega arith
 
 loop-again : tie.Need-loop-again Inv-loop μ-loop
 unfolding earlierOf
-loop-again c = let s = c .before .before .before .before .before in next _ _ _ _ _ (s .good .0 .1 .0 .1) (c .before .before .before .loop .inv) (c .before .before .loop-test .taken) (rw (ne-eqb _ _ (c .before .if1 .left), ne-eqb _ _ (c .if2 .left)) refl)
+loop-again c =
+    let start = c .before .before .before .before .before in
+    next _ _ _ _ _ (start .good .0 .1 .0 .1) (c .before .before .before .loop .inv) (c .before .before .loop-test .taken)
+    (rw (ne-eqb _ _ (c .before .if1 .left), ne-eqb _ _ (c .if2 .left)) refl)
 
 returns-3 : tie.Need-returns-3 Inv-loop μ-loop
 unfolding earlierOf
-returns-3 c = let start = c .before .before .before in out _ _ _ _ _ (start .good .0 .1 .0 .1) (c .before .loop .inv) (c .loop-test .left)
+returns-3 c =
+    let start = c .before .before .before in
+    out _ _ _ _ _ (start .good .0 .1 .0 .1) (c .before .loop .inv) (c .loop-test .left)
 
 pub earlier-spec : {M : Type 1} → statement M
 earlier-spec =

@@ -1,3 +1,4 @@
+-- Two places are the same where kind and number are.
 use borrow.Author.Tests.{eq-eqb, ne-eqb}
 use borrow.Author.Needs.{needs}
 use Rattle.tables.proofs.Searches.{same-place}
@@ -17,7 +18,17 @@ number-requires-2 : tie.Need-number-requires-2
 number-requires-2 c κs = search needs
 
 returns : tie.Need-returns
-returns c = simp (same-place, ← c .before .before .before .before .kind .ensures, ← c .before .before .before .kind2 .ensures, ← c .before .number .ensures, ← c .number2 .ensures, eq-eqb _ _ (c .before .before .if1 .taken))
+returns c =
+    let at-kind = c .before .before .before .before in
+    simp (
+      same-place,
+      ← at-kind .kind .ensures,
+      ← c .before .before .before .kind2 .ensures,
+      ← c .before .number .ensures,
+      ←
+          c .number2 .ensures,
+      eq-eqb _ _ (c .before .before .if1 .taken),
+    )
 
 returns-2 : tie.Need-returns-2
 returns-2 c = simp (same-place, ← c .before .before .kind .ensures, ← c .before .kind2 .ensures, ne-eqb _ _ (c .if1 .left))

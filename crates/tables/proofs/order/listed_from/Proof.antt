@@ -1,3 +1,4 @@
+-- The first entry that holds t decides.
 use Prim.Native.Nat.{_-_}
 use mathlib.Core.Path.{refl}
 use native.Mathlib.Omega.{arith}
@@ -24,7 +25,10 @@ array-read-u c = omega arith
 
 returns : tie.Need-returns Inv-loop μ-loop
 unfolding memberOf
-returns c = let s = c .before .before .before .before in rw (eq-eqb _ _ (c .if1 .taken)) at (here _ _ _ _ _ (s .good .0 .1 .0 .1) (c .before .before .loop .inv) (c .before .loop-test .taken))
+returns c =
+    let start = c .before .before .before .before in
+    rw (eq-eqb _ _ (c .if1 .taken)) at (here _ _ _ _ _ (start .good .0 .1 .0 .1) (c .before .before .loop .inv)
+    (c .before .loop-test .taken))
 
 add-i : tie.Need-add-i Inv-loop μ-loop
 add-i c = omega arith
@@ -34,11 +38,16 @@ loop-less c = omega arith
 
 loop-again : tie.Need-loop-again Inv-loop μ-loop
 unfolding memberOf
-loop-again c = let s = c .before .before .before .before in next _ _ _ _ _ (s .good .0 .1 .0 .1) (c .before .before .loop .inv) (c .before .loop-test .taken) (rw (ne-eqb _ _ (c .if1 .left)) refl)
+loop-again c =
+    let start = c .before .before .before .before in
+    next _ _ _ _ _ (start .good .0 .1 .0 .1) (c .before .before .loop .inv) (c .before .loop-test .taken)
+    (rw (ne-eqb _ _ (c .if1 .left)) refl)
 
 returns-2 : tie.Need-returns-2 Inv-loop μ-loop
 unfolding memberOf
-returns-2 c = let start = c .before .before .before in out _ _ _ _ _ (start .good .0 .1 .0 .1) (c .before .loop .inv) (c .loop-test .left)
+returns-2 c =
+    let start = c .before .before .before in
+    out _ _ _ _ _ (start .good .0 .1 .0 .1) (c .before .loop .inv) (c .loop-test .left)
 
 pub listed-from-spec : {M : Type 1} → statement M
 listed-from-spec =

@@ -1,3 +1,4 @@
+-- The first entry whose timeslice has this owner decides; past the end of the table the owner is 0.
 use Prim.Native.Nat.{_-_}
 use mathlib.Core.Path.{refl, sym, _∙_}
 use native.Mathlib.Omega.{arith}
@@ -43,9 +44,12 @@ array-copy-out-x c = search needs
 returns : tie.Need-returns Inv-loop μ-loop
 unfolding someOf
 returns c =
-    let s = c .before .before .before .before .before .before .before .before in
-    let o = owns (s .args .t1) _ _ _ (c .before .before .before .before .index .ensures) refl in
-    rw (eq-eqb _ _ (sym o ∙ c .if2 .taken)) at (here _ _ _ _ _ (s .good .1 .0 .1 .0 .1) (c .before .before .before .before .before .before .loop .inv) (c .before .before .before .before .before .loop-test .taken))
+    let at-index = c .before .before .before .before in
+    let tested = at-index .before in
+    let turn = tested .before in
+    let start = turn .before .before in
+    let o = owns (start .args .t1) _ _ _ (at-index .index .ensures) refl in
+    rw (eq-eqb _ _ (sym o ∙ c .if2 .taken)) at (here _ _ _ _ _ (start .good .1 .0 .1 .0 .1) (turn .loop .inv) (tested .loop-test .taken))
 
 loop-less : tie.Need-loop-less Inv-loop μ-loop
 loop-less c = omega arith
@@ -53,16 +57,22 @@ loop-less c = omega arith
 loop-again : tie.Need-loop-again Inv-loop μ-loop
 unfolding someOf
 loop-again c =
-    let s = c .before .before .before .before .before .before .before .before in
-    let o = owns (s .args .t1) _ _ _ (c .before .before .before .before .index .ensures) refl in
-    next _ _ _ _ _ (s .good .1 .0 .1 .0 .1) (c .before .before .before .before .before .before .loop .inv) (c .before .before .before .before .before .loop-test .taken) (rw (ne-eqb _ _ (λ e. c .if2 .left (o ∙ e))) refl)
+    let at-index = c .before .before .before .before in
+    let tested = at-index .before in
+    let turn = tested .before in
+    let start = turn .before .before in
+    let o = owns (start .args .t1) _ _ _ (at-index .index .ensures) refl in
+    next _ _ _ _ _ (start .good .1 .0 .1 .0 .1) (turn .loop .inv) (tested .loop-test .taken)
+    (rw (ne-eqb _ _ (λ e. c .if2 .left (o ∙ e))) refl)
 
 returns-2 : tie.Need-returns-2 Inv-loop μ-loop
 unfolding someOf
 returns-2 c =
-    let s = c .before .before .before .before .before .before in
-    let o = owns-none (s .args .t1) _ _ 0 (s .good .0 .1 .0 .1) (c .before .before .index .ensures) (c .before .if1 .left) refl in
-    rw (eq-eqb _ _ (sym o ∙ c .if3 .taken)) at (here _ _ _ _ _ (s .good .1 .0 .1 .0 .1) (c .before .before .before .before .loop .inv) (c .before .before .before .loop-test .taken))
+    let turn = c .before .before .before .before in
+    let start = turn .before .before in
+    let o = owns-none (start .args .t1) _ _ 0 (start .good .0 .1 .0 .1) (c .before .before .index .ensures) (c .before .if1 .left) refl in
+    rw (eq-eqb _ _ (sym o ∙ c .if3 .taken)) at (here _ _ _ _ _ (start .good .1 .0 .1 .0 .1) (turn .loop .inv)
+    (c .before .before .before .loop-test .taken))
 
 loop-less-2 : tie.Need-loop-less-2 Inv-loop μ-loop
 loop-less-2 c = omega arith
@@ -70,13 +80,17 @@ loop-less-2 c = omega arith
 loop-again-2 : tie.Need-loop-again-2 Inv-loop μ-loop
 unfolding someOf
 loop-again-2 c =
-    let s = c .before .before .before .before .before .before in
-    let o = owns-none (s .args .t1) _ _ 0 (s .good .0 .1 .0 .1) (c .before .before .index .ensures) (c .before .if1 .left) refl in
-    next _ _ _ _ _ (s .good .1 .0 .1 .0 .1) (c .before .before .before .before .loop .inv) (c .before .before .before .loop-test .taken) (rw (ne-eqb _ _ (λ e. c .if3 .left (o ∙ e))) refl)
+    let turn = c .before .before .before .before in
+    let start = turn .before .before in
+    let o = owns-none (start .args .t1) _ _ 0 (start .good .0 .1 .0 .1) (c .before .before .index .ensures) (c .before .if1 .left) refl in
+    next _ _ _ _ _ (start .good .1 .0 .1 .0 .1) (turn .loop .inv) (c .before .before .before .loop-test .taken)
+    (rw (ne-eqb _ _ (λ e. c .if3 .left (o ∙ e))) refl)
 
 returns-3 : tie.Need-returns-3 Inv-loop μ-loop
 unfolding someOf
-returns-3 c = let start = c .before .before .before in out _ _ _ _ _ (start .good .1 .0 .1 .0 .1) (c .before .loop .inv) (c .loop-test .left)
+returns-3 c =
+    let start = c .before .before .before in
+    out _ _ _ _ _ (start .good .1 .0 .1 .0 .1) (c .before .loop .inv) (c .loop-test .left)
 
 pub owns-one-spec : {M : Type 1} → statement M
 owns-one-spec =

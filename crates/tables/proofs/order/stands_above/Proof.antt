@@ -1,3 +1,4 @@
+-- Both priorities are read; where they are equal, the turn order decides.
 use mathlib.Core.Path.{_≡_}
 use mathlib.Core.List.{map}
 use mathlib.Core.Logic.{⊎-elim}
@@ -10,15 +11,21 @@ use Rattle.tables.proofs.order.stands_above.Statement.{statement}
 use Rattle.tables.proofs.order.stands_above.Tie as tie
 
 -- both priorities, where they are compared
-high : (c : tie.Joined2) → c .before .before .if1 .high ≡ priorityAt (map sliceOf (c .before .before .before .before .args .t1)) (c .before .before .before .before .args .a)
+high : (c : tie.Joined2) → c .before .before .if1 .high ≡ priorityAt (map sliceOf (c .before .before .before .before .args .t1))
+    (c .before .before .before .before .args .a)
 high c =
-    let s = c .before .before .before .before in
-    ⊎-elim (λ o. priority-is (s .args .t1) _ _ _ (c .before .before .before .index .ensures) (o .2)) (λ o. priority-none (s .args .t1) _ _ _ (s .good .0 .1 .0 .1) (c .before .before .before .index .ensures) (o .0 .left) (o .1)) (c .before .before .if1 .came)
+    let at-index = c .before .before .before in
+    let start = at-index .before in
+    ⊎-elim (λ o. priority-is (start .args .t1) _ _ _ (at-index .index .ensures) (o .2))
+    (λ o. priority-none (start .args .t1) _ _ _ (start .good .0 .1 .0 .1) (at-index .index .ensures) (o .0 .left) (o .1))
+    (c .before .before .if1 .came)
 
-low : (c : tie.Joined2) → c .if2 .low ≡ priorityAt (map sliceOf (c .before .before .before .before .args .t1)) (c .before .before .before .before .args .b)
+low : (c : tie.Joined2) → c .if2 .low ≡ priorityAt (map sliceOf (c .before .before .before .before .args .t1))
+    (c .before .before .before .before .args .b)
 low c =
-    let s = c .before .before .before .before in
-    ⊎-elim (λ o. priority-is (s .args .t1) _ _ _ (c .before .index2 .ensures) (o .2)) (λ o. priority-none (s .args .t1) _ _ _ (s .good .0 .1 .0 .1) (c .before .index2 .ensures) (o .0 .left) (o .1)) (c .if2 .came)
+    let start = c .before .before .before .before in
+    ⊎-elim (λ o. priority-is (start .args .t1) _ _ _ (c .before .index2 .ensures) (o .2))
+    (λ o. priority-none (start .args .t1) _ _ _ (start .good .0 .1 .0 .1) (c .before .index2 .ensures) (o .0 .left) (o .1)) (c .if2 .came)
 
 index-requires : tie.Need-index-requires
 index-requires c κs = tt
@@ -45,10 +52,15 @@ earlier-requires : tie.Need-earlier-requires
 earlier-requires c κs = tt
 
 returns-2 : tie.Need-returns-2
-returns-2 c = equal _ _ _ _ _ _ (high (c .before .before .before)) (low (c .before .before .before)) _ (c .before .if4 .taken) (c .earlier .ensures)
+returns-2 c =
+    let place3 = c .before .before .before in
+    equal _ _ _ _ _ _ (high place3) (low place3) _ (c .before .if4 .taken) (c .earlier .ensures)
 
 returns-3 : tie.Need-returns-3
-returns-3 c = lower _ _ _ _ _ _ (high (c .before .before)) (low (c .before .before)) (c .before .if3 .left) (c .if4 .left)
+returns-3 c =
+    let place2 = c .before .before in
+    lower _ _ _ _ _ _ (high place2) (low place2) (c .before .if3 .left) (c .if4 .left)
 
 pub stands-above-spec : {M : Type 1} → statement M
-stands-above-spec = tie.close (tie.spec index-requires mul-x array-copy-out-x index-requires-2 mul-y array-copy-out-y returns earlier-requires returns-2 returns-3)
+stands-above-spec = tie.close (tie.spec index-requires mul-x array-copy-out-x index-requires-2 mul-y array-copy-out-y returns
+    earlier-requires returns-2 returns-3)

@@ -1,3 +1,4 @@
+-- Only a Calling thread has a server to compare.
 use borrow.Author.Needs.{needs}
 use Rattle.tables.proofs.records.is_calling.Statement.{statement}
 use Rattle.tables.proofs.records.is_calling.Tie as tie

@@ -1,3 +1,4 @@
+-- Only a server with a caller has a number to compare.
 use borrow.Author.Needs.{needs}
 use Rattle.tables.proofs.records.is_serving.Statement.{statement}
 use Rattle.tables.proofs.records.is_serving.Tie as tie

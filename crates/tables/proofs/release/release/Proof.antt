@@ -22,13 +22,23 @@ released-requires c κs = tt
 returns : tie.Need-returns
 returns c =
     let s = c .before .before .before .args in
-    record { slices = refl; places = nobody (setOf (s .set)) _ (take (s .live) (s .order)) _ _ (c .before .before .topmost .ensures) (c .enum-told .given .1) }
+    record {
+      slices = refl;
+      places = nobody (setOf (s .set)) _ (take (s .live) (s .order)) _ _ (c .before .before .topmost .ensures)
+          (c .enum-told .given .1);
+    }
 
 returns-2 : tie.Need-returns-2
 returns-2 c =
-    let s = c .before .before .before .before .before .args in
+    let at-topmost = c .before .before .before .before in
+    let start = at-topmost .before in
+    let s = start .args in
     let r = c .released .ensures in
-    record { slices = r .slices; places = r .places ∙ somebody (setOf (s .set)) _ (take (s .live) (s .order)) _ _ (c .before .before .before .before .topmost .ensures) _ (c .before .before .first .given .1) }
+    record {
+      slices = r .slices;
+      places = r .places ∙ somebody (setOf (s .set)) _ (take (s .live) (s .order)) _ _
+          (at-topmost .topmost .ensures) _ (c .before .before .first .given .1);
+    }
 
 pub release-spec : {M : Type 1} → statement M
 release-spec = tie.close (tie.spec topmost-requires enum-told enum-known-first released-requires returns returns-2)

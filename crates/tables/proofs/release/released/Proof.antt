@@ -10,7 +10,8 @@ use Rattle.tables.proofs.release.released.Statement.{statement}
 use Rattle.tables.proofs.release.released.Tie as tie
 
 abbrev Inv-loop : tie.InvT-loop
-Inv-loop live set first timeslices₀ order n i₀ timeslices i = (n ≡ entriesOf live) × Moving (setOf set) first live order timeslices₀ timeslices i
+Inv-loop live set first timeslices₀ order n i₀ timeslices i = (n ≡ entriesOf live) × Moving (setOf set) first live order timeslices₀
+    timeslices i
 
 abbrev μ-loop : tie.MeasureT-loop
 μ-loop live set first timeslices₀ order n i₀ timeslices i = n - i
@@ -90,8 +91,8 @@ loop-again-3 c =
 
 returns : tie.Need-returns Inv-loop μ-loop
 returns c =
-    let inv = c .before .loop .inv in
     let start = c .before .before .before in
+    let inv = c .before .loop .inv in
     done _ _ _ _ _ _ _ (start .good .1 .0 .1 .0 .1) (inv .1) (omega arith)
 
 pub released-spec : {M : Type 1} → statement M

@@ -1,3 +1,4 @@
+-- Each of the three stores is one of the definition's.
 use Rattle.rules.specs.Threads.{donate}
 use borrow.Author.Needs.{needs}
 use Rattle.tables.proofs.threads.donated.Statement.{statement}

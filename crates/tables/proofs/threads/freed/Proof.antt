@@ -1,3 +1,4 @@
+-- Only a caller that is served changes.
 use borrow.Author.Needs.{needs}
 use Rattle.tables.proofs.threads.freed.Statement.{statement}
 use Rattle.tables.proofs.threads.freed.Tie as tie

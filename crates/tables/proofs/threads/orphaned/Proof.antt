@@ -1,3 +1,4 @@
+-- Only the server of a Calling thread changes.
 use borrow.Author.Needs.{needs}
 use Rattle.tables.proofs.threads.orphaned.Statement.{statement}
 use Rattle.tables.proofs.threads.orphaned.Tie as tie

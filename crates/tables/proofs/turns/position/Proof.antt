@@ -32,7 +32,8 @@ loop-less : tie.Need-loop-less Inv-loop μ-loop
 loop-less c = omega arith
 
 loop-again : tie.Need-loop-again Inv-loop μ-loop
-loop-again c = let inv = c .before .before .loop .inv in (inv .0, pass _ _ _ (inv .0) _ _ (inv .1) (c .before .loop-test .taken) (c .if1 .left))
+loop-again c =
+    let inv = c .before .before .loop .inv in (inv .0, pass _ _ _ (inv .0) _ _ (inv .1) (c .before .loop-test .taken) (c .if1 .left))
 
 returns-2 : tie.Need-returns-2 Inv-loop μ-loop
 returns-2 c = let inv = c .before .loop .inv in lost _ _ _ (inv .0) _ _ (inv .1) (c .loop-test .left)

@@ -17,7 +17,8 @@ shifted-requires c κs = omega (arith, c .before .entries .ensures, c .if1 .take
 returns : tie.Need-returns
 returns c =
     let sought = c .before .before in
-    turned _ _ _ _ _ (omega (arith, sought .entries .ensures, c .before .if1 .taken)) (sought .before .position .ensures) (c .shifted .ensures)
+    turned _ _ _ _ _ (omega (arith, sought .entries .ensures, c .before .if1 .taken)) (sought .before .position .ensures)
+    (c .shifted .ensures)
 
 returns-2 : tie.Need-returns-2
 returns-2 c =

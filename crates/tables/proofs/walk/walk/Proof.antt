@@ -1,3 +1,4 @@
+-- What is left to walk from this thread, with the links that are left, is the whole walk.
 use Prim.Native.Nat.{_-_}
 use mathlib.Core.Bool.{false}
 use mathlib.Core.Path.{ap, refl}
@@ -26,9 +27,10 @@ index-requires c κs = tt
 
 returns : tie.Need-returns Inv-loop μ-loop
 returns c =
-    let s = c .before .before .before .before in
-    let free = past (s .args .t1) _ _ freeThread (s .good .0 .1 .0 .1) (c .before .index .ensures) (c .if1 .taken) in
-    next _ _ _ _ _ (c .before .before .before .loop .inv) (c .before .before .loop-test .taken) _ refl Ready (ap (λ (t : Thread). t .hold) free)
+    let start = c .before .before .before .before in
+    let free = past (start .args .t1) _ _ freeThread (start .good .0 .1 .0 .1) (c .before .index .ensures) (c .if1 .taken) in
+    next _ _ _ _ _ (c .before .before .before .loop .inv) (c .before .before .loop-test .taken) _ refl Ready
+    (ap (λ (t : Thread). t .hold) free)
 
 mul-thread : tie.Need-mul-thread Inv-loop μ-loop
 mul-thread c = search needs
@@ -50,8 +52,11 @@ loop-less c = omega arith
 
 loop-again : tie.Need-loop-again Inv-loop μ-loop
 loop-again c =
-    let w = c .before .before .before .before .before .before .before .loop .inv in
-    let rest = next _ _ _ _ _ w (c .before .before .before .before .before .before .loop-test .taken) _ (c .before .before .before .before .before .index .ensures) _ (c .before .hold .given .1) in
+    let at-index = c .before .before .before .before .before in
+    let tested = at-index .before in
+    let turn = tested .before in
+    let w = turn .loop .inv in
+    let rest = next _ _ _ _ _ w (tested .loop-test .taken) _ (at-index .index .ensures) _ (c .before .hold .given .1) in
     record { spent = omega arith; counted = omega arith; rest = rest }
 
 enum-known-hold-2 : tie.Need-enum-known-hold-2 Inv-loop μ-loop
@@ -65,12 +70,18 @@ loop-less-2 c = omega arith
 
 loop-again-2 : tie.Need-loop-again-2 Inv-loop μ-loop
 loop-again-2 c =
-    let w = c .before .before .before .before .before .before .before .loop .inv in
-    let rest = next _ _ _ _ _ w (c .before .before .before .before .before .before .loop-test .taken) _ (c .before .before .before .before .before .index .ensures) _ (c .before .hold2 .given .1) in
+    let at-index = c .before .before .before .before .before in
+    let tested = at-index .before in
+    let turn = tested .before in
+    let w = turn .loop .inv in
+    let rest = next _ _ _ _ _ w (tested .loop-test .taken) _ (at-index .index .ensures) _ (c .before .hold2 .given .1) in
     record { spent = omega arith; counted = omega arith; rest = rest }
 
 returns-2 : tie.Need-returns-2 Inv-loop μ-loop
-returns-2 c = end _ _ _ _ _ (c .before .before .before .before .before .loop .inv) (c .before .before .before .before .loop-test .taken) _ (c .before .before .before .index .ensures) (c .match .keys3)
+returns-2 c =
+    let tested = c .before .before .before .before in
+    let turn = tested .before in
+    end _ _ _ _ _ (turn .loop .inv) (tested .loop-test .taken) _ (c .before .before .before .index .ensures) (c .match .keys3)
 
 returns-3 : tie.Need-returns-3 Inv-loop μ-loop
 returns-3 c = out _ _ _ _ _ (c .before .loop .inv) (c .loop-test .left)
