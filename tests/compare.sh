@@ -3,14 +3,15 @@
 #
 # Makes event files of every kind and compares, byte for byte, the key that KEY_PROGRAM prints with that
 # of oracle/key.rs; and oracle/plain.rs with oracle/key.rs without its last column. COUNT is the number of
-# lively files; the other kinds go with it. The same seed gives the same files.
+# lively files; the other kinds go with it. The same seed gives the same files. Each run of KEY_PROGRAM has 10 seconds.
 #
 # Exit status: 0 all equal, 1 a difference, 2 wrong use or no time left (COMPARE_SECONDS, default 60).
 set -euo pipefail
 export LC_ALL=C
 [ $# -ge 1 ] || { echo "compare.sh KEY_PROGRAM [SEED] [COUNT]" >&2; exit 2; }
-here=$(cd "$(dirname "$0")" && pwd)
-program=$(realpath "$1")
+here=$(dirname "$(readlink -f "${BASH_SOURCE[0]}")")
+program=$(realpath -e "$1")
+. "$here/program.sh"
 seed=${2:-20261115}
 count=${3:-900}
 limit=${COMPARE_SECONDS:-60}
@@ -27,6 +28,13 @@ done
 ./make.run "$seed" $((count / 5 + 30)) in damaged
 for kind in full small chain16 chain64 chain127; do
     ./make.run "$seed" 1 in $kind
+done
+
+# A good file of exactly 65,536 bytes, and the same with more behind it: bytes that its length field does not count.
+size=$(stat -c %s in/full-00000)
+[ "$size" -eq 65536 ] || { echo "full-00000 has $size bytes, not 65,536"; exit 1; }
+for more in 1 100000; do
+    { cat in/full-00000; head -c "$more" /dev/zero; } >"in/full-and-$more"
 done
 
 # The two outside programs against each other. The plain machine does not define the last column.
@@ -50,8 +58,11 @@ differ() {
     sed -n "$from,$((line + 1))p" "$other"
 }
 
-names=$(ls in)
-for f in $names; do
+names=(in/*)
+names=("${names[@]#in/}")
+total=${#names[@]}
+[ "$total" -gt 100 ] || { echo "only $total event files were made"; exit 1; }
+for f in "${names[@]}"; do
     if ! cmp -s "short/$f" "plain/$f"; then
         echo "the two outside programs disagree: a question about document 01"
         differ "$f" "short/$f" "plain/$f" "key.rs without links" "plain.rs"
@@ -59,29 +70,30 @@ for f in $names; do
     fi
 done
 
-# One run of KEY_PROGRAM for each file. A signal or 10 seconds without an end count as a difference.
-total=$(ls in | wc -l)
 compared=0
-try() {
-    local file=$1 status=0
-    timeout 10 "$program" > "got/$file" || status=$?
-    if [ $status -ge 124 ] || ! cmp -s "got/$file" "want/$file"; then
-        [ $status -lt 124 ] || echo "$program ended with status $status"
-        differ "$file" "got/$file" "want/$file" "$program" "key.rs"
+try() { # NAME, with its file on standard input
+    local ended=0
+    key_to "got/$1" || ended=$?
+    if [ $ended -ne 0 ] || ! cmp -s "got/$1" "want/$1"; then
+        differ "$1" "got/$1" "want/$1" "$program" "key.rs"
         exit 1
     fi
 }
-for f in $names; do
+for f in "${names[@]}"; do
     if [ $SECONDS -ge "$limit" ]; then
         echo "$compared of $total files compared, 0 differ, but no time left after $SECONDS s"
         exit 2
     fi
-    try "$f" < "in/$f"
+    try "$f" <"in/$f"
     compared=$((compared + 1))
 done
+for more in 1 100000; do
+    [ "$(cat "got/full-and-$more")" = "file 14" ] || { echo "$more bytes behind a file of 65,536 did not give 'file 14'"; exit 1; }
+done
+[ "$(wc -l <got/full-00000)" -gt 20000 ] || { echo "a file of 65,536 bytes has no whole key"; exit 1; }
 
 # Standard input may come in pieces: 2 bytes, 200 bytes, the rest.
-for f in full-00000 lively-00000 chain-00000; do
+for f in full-00000 full-and-1 lively-00000 chain-00000; do
     try "$f" < <(head -c 2 "in/$f"; sleep 0.1; head -c 202 "in/$f" | tail -c +3; sleep 0.1; tail -c +203 "in/$f")
 done
 echo "$compared files compared, 0 differ"

@@ -2,26 +2,41 @@
 # sequences.sh KEY_PROGRAM [NAME...]
 #
 # Runs KEY_PROGRAM on each list in sequences/ and compares with the key worked out by hand. K10 is no list: empty input gives 14.
+# Every list has an event, and its key a line for each.
 set -euo pipefail
 export LC_ALL=C
 [ $# -ge 1 ] || { echo "sequences.sh KEY_PROGRAM [NAME...]" >&2; exit 2; }
-here=$(cd "$(dirname "$0")" && pwd)
-program=$(realpath "$1")
+here=$(dirname "$(readlink -f "${BASH_SOURCE[0]}")")
+program=$(realpath -e "$1")
 shift
+. "$here/program.sh"
 work=$(mktemp -d)
 trap 'rm -rf "$work"' EXIT
 rustc --edition 2021 -O -o "$work/encode" "$here/oracle/encode.rs"
 cd "$here/sequences"
-[ $# -gt 0 ] || set -- $(ls ./*.events | sed 's,^\./,,; s,\.events$,,')
+if [ $# -eq 0 ]; then
+    shopt -s nullglob
+    lists=(*.events)
+    [ ${#lists[@]} -gt 0 ] || { echo "there is no list in $PWD"; exit 1; }
+    set -- "${lists[@]%.events}"
+fi
+
+# One list against its key.
+agrees() { # NAME
+    [ -f "$1.events" ] && [ -f "$1.key" ] || { echo "$1: not both .events and .key are there"; return 1; }
+    "$work/encode" <"$1.events" >"$work/file" || { echo "$1: the list cannot be encoded"; return 1; }
+    local events lines
+    events=$(sed 's/#.*//' "$1.events" | grep -c '[^[:space:]]' || true)
+    lines=$(wc -l <"$1.key")
+    [ "$events" -gt 0 ] && [ "$events" -eq "$lines" ] || { echo "$1: $events events, and $lines lines in its key"; return 1; }
+    key_to "$work/key" <"$work/file" || { echo "$1: no key"; return 1; }
+    diff -u --label "$1, by hand" --label "$1, printed" "$1.key" "$work/key"
+}
 bad=0
 for name in "$@"; do
-    "$work/encode" < "$name.events" > "$work/file"
-    timeout 10 "$program" < "$work/file" > "$work/key" || true
-    if ! diff -u --label "$name, by hand" --label "$name, printed" "$name.key" "$work/key"; then
-        bad=$((bad + 1))
-    fi
+    agrees "$name" || bad=$((bad + 1))
 done
-if [ "$("$program" < /dev/null)" != "file 14" ]; then
+if ! key_to "$work/key" </dev/null || [ "$(cat "$work/key")" != "file 14" ]; then
     echo "K10: empty input did not give 'file 14'"
     bad=$((bad + 1))
 fi
