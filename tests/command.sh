@@ -1,0 +1,155 @@
+#!/usr/bin/env bash
+# command.sh KEY_PROGRAM
+#
+# The commands ./key and ./check themselves, in a copy with an rt that proves nothing: it "builds" by copying a program, and its `ci` says what it is told.
+set -euo pipefail
+export LC_ALL=C
+[ $# -eq 1 ] || { echo "command.sh KEY_PROGRAM" >&2; exit 2; }
+here=$(dirname "$(readlink -f "${BASH_SOURCE[0]}")")
+program=$(realpath -e "$1")
+work=$(mktemp -d)
+trap 'rm -rf "$work"' EXIT
+repository="$work/the repository"
+outside="$work/another folder"
+mkdir -p "$repository/tests" "$outside/samples" "$work/bin" "$work/few"
+cp -r "$here/../key" "$here/../check" "$here/../crates.txt" "$here/../samples" "$here/../tools" "$repository"
+ln -s "$repository/key" "$work/bin/first"
+ln -s first "$work/bin/key"
+ln -s "$repository/check" "$work/bin/check"
+cp "$here/../samples/bridge" "$outside/samples/k1" # the name of another file in the repository
+cp "$here/../samples/k1" "$outside/a file"
+for tool in bash env dirname readlink cat mktemp rm; do ln -s "$(command -v $tool)" "$work/few/$tool"; done
+
+# The program that rt "builds" is $work/built; while $work/slow is there, proving does not end.
+cp "$program" "$work/built"
+cat >"$work/bin/rt" <<END
+#!/bin/sh
+mkdir -p target/bin target/log target/stamp
+if [ "\$1" = ci ]; then cp "$work/built" target/bin/key; cat "$work/ci"; exit "\$(cat "$work/ci.status")"; fi
+[ ! -f "$work/refuse" ] || { echo "rt: key NOT PROVED"; exit 1; }
+[ ! -f target/stamp/key ] || exit 0
+echo failed >target/log/key.res
+: >target/log/key.say
+if [ -f "$work/slow" ]; then (exec sleep 1000) & echo \$! >"$work/prover"; wait; fi
+cp "$work/built" target/bin/key
+echo built >target/log/key.res
+echo stamp >target/stamp/key
+END
+chmod +x "$work/bin/rt"
+export PATH="$work/bin:$PATH"
+cd "$outside"
+
+tried=0 bad=0
+wrong() { # SENTENCE
+    echo "$what: $1"
+    bad=$((bad + 1))
+}
+# Runs a command, 20 seconds at most, and compares its exit status.
+run() { # WHAT STATUS COMMAND..
+    local expected=$2 ended=0
+    what=$1
+    shift 2
+    tried=$((tried + 1))
+    timeout -k 1 20 "$@" >"$work/out" 2>"$work/err" || ended=$?
+    [ $ended -eq "$expected" ] || wrong "status $ended, not $expected; it said: $(cat "$work/out" "$work/err")"
+}
+prints() { cmp -s "$work/out" "$1" || wrong "it printed $(head -c 300 "$work/out")"; } # FILE
+says() { grep -q -- "$1" "$work/err" || wrong "it did not say '$1' but '$(cat "$work/err")'"; }
+says_nothing() { [ ! -s "$work/err" ] || wrong "it said $(cat "$work/err")"; }
+ends_in() { [[ $(tail -n 1 "$work/out") =~ $1 ]] || wrong "its last line is '$(tail -n 1 "$work/out")'"; } # PATTERN
+ends_not_in() { [[ ! $(tail -n 1 "$work/out") =~ $1 ]] || wrong "its last line is '$(tail -n 1 "$work/out")'"; }
+
+timeout 10 "$program" <"$here/../samples/k1" >"$work/k1.key"
+timeout 10 "$program" <"$here/../samples/bridge" >"$work/bridge.key"
+{ echo "a file"; cat "$work/k1.key"; } >"$work/under-its-name"
+echo "file 14" >"$work/file14"
+
+run "first use, through two links, from another folder" 0 key "a file"; prints "$work/k1.key"
+run "unchanged" 0 "$repository/key" "a file"; prints "$work/k1.key"; says_nothing
+run "the caller's file, not the repository's of that name" 0 key samples/k1; prints "$work/bridge.key"
+run "standard input" 0 key - <"a file"; prints "$work/k1.key"
+run "a refused file has a key" 0 key - </dev/null; prints "$work/file14"
+run "a missing file among others" 1 key none "a file" .; prints "$work/under-its-name"; says "none: no such file"; says "is a folder"
+run "samples" 0 key; [ "$(grep -c '^samples/' "$work/out")" -eq 2 ] || wrong "not two samples"
+run "a closed standard input" 1 bash -c 'key - <&-'
+run "a full device" 1 bash -c 'key "a file" >/dev/full'
+run "a closed standard output" 1 bash -c 'key "a file" >&-'
+run "wrong use" 2 key --none
+run "help without rt" 0 env PATH="$work/few" "$repository/key" --help
+run "no rt" 1 env PATH="$work/few" "$repository/key" "a file"; says "rt"; [ "$(wc -l <"$work/err")" -eq 1 ] || wrong "not one sentence"
+
+head -c 1000 "$program" >"$repository/target/bin/key"
+run "a cut-off program" 0 key "a file"; prints "$work/k1.key"; says "building it again"
+rm "$repository/target/bin/key"
+run "a missing program" 0 key "a file"; prints "$work/k1.key"
+: >"$work/refuse"
+run "not proved" 1 key "a file"; prints /dev/null; says "NOT PROVED"
+rm "$work/refuse"
+
+# A program that prints a key and does not end well.
+replace() { # LAST LINE
+    printf '#!/bin/sh\n"%s"\n%s\n' "$program" "$1" >"$work/built"
+    chmod +x "$work/built"
+    rm -rf "$repository/target"
+}
+replace 'echo "cannot be written" >&2'
+run "a program that says something on standard error" 1 key "a file"; says "cannot be written"
+replace 'kill -SEGV $$'
+run "a program that crashes after printing" 1 key "a file"; says "status 139"
+cp "$program" "$work/built"
+rm -rf "$repository/target"
+
+# TERM while it proves; rt's own job must be gone.
+: >"$work/slow"
+what="interrupted while it proves"
+tried=$((tried + 1))
+key "a file" >"$work/out" 2>"$work/err" &
+for ((k = 0; k < 100; k++)); do
+    if grep -q proving "$work/err"; then break; fi
+    sleep 0.1
+done
+kill -TERM $!
+ended=0
+wait $! || ended=$?
+[ $ended -eq 143 ] || wrong "status $ended"
+says "proving key; 5 of 5 crates left"
+rm "$work/slow"
+prover=$(cat "$work/prover")
+# one that has ended may still wait for its parent to notice
+if kill -0 "$prover" 2>/dev/null && ! grep -q '^State:.*Z' "/proc/$prover/status"; then
+    wrong "the prover still runs"
+    kill "$prover"
+fi
+run "after an interruption" 0 key "a file"; prints "$work/k1.key"
+
+# ./check: rt ci says the words given and ends with the status given; the outside tests end as told.
+ci() { printf '%s\n' "$2" >"$work/ci"; echo "$1" >"$work/ci.status"; } # STATUS WORDS
+names="sequences compare documents sentences command"
+tests() { # [NAME of the one that fails]
+    local one
+    for one in $names; do echo "exit 0" >"$repository/tests/$one.sh"; done
+    [ $# -eq 0 ] || echo "exit 1" >"$repository/tests/$1.sh"
+}
+tests
+ci 0 "rt: ok
+7 passed, 0 failed"
+run "check" 0 check; ends_in '^7 passed, 0 failed$'; [ "$(grep -c passed "$work/out")" -eq 1 ] || wrong "the tally is not printed once"
+run "check, then key" 0 key "a file"; says_nothing
+for name in $names; do
+    tests "$name"
+    run "check with tests/$name.sh failing" 1 check; ends_not_in '0 failed$'; ends_in "tests/$name.sh"
+done
+tests
+ci 1 "10 passed, 10 failed"
+run "check with rt ci failing" 1 check; ends_not_in '0 failed$'
+ci 0 "rt: no tally"
+run "check without a tally" 1 check; ends_not_in '0 failed$'
+ci 0 "0 passed, 0 failed"
+run "check with nothing passed" 1 check; ends_not_in '0 failed$'
+run "check, wrong use" 2 check many
+run "check without rt" 1 env PATH="$work/few" "$repository/check"; ends_in 'rt'
+ln -s "$work/bin/rt" "$work/few/rt"
+run "check without rustc" 1 env PATH="$work/few" "$repository/check"; ends_in 'rustc'
+
+echo "$tried runs of ./key and ./check, $bad wrong"
+[ $bad -eq 0 ]
