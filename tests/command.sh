@@ -108,8 +108,8 @@ for ((k = 0; k < 100; k++)); do
     if grep -q proving "$work/err"; then break; fi
     sleep 0.1
 done
-kill -TERM $!
 ended=0
+kill -TERM $! || true
 wait $! || ended=$?
 [ $ended -eq 143 ] || wrong "status $ended"
 says "proving key; 5 of 5 crates left"
@@ -142,6 +142,8 @@ done
 tests
 ci 1 "10 passed, 10 failed"
 run "check with rt ci failing" 1 check; ends_not_in '0 failed$'
+ci 1 "7 passed, 0 failed"
+run "check with rt ci ending badly" 1 check; ends_not_in '0 failed$'
 ci 0 "rt: no tally"
 run "check without a tally" 1 check; ends_not_in '0 failed$'
 ci 0 "0 passed, 0 failed"
