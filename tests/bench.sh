@@ -3,12 +3,12 @@
 #
 # The time of KEY_PROGRAM against oracle/straight.rs and oracle/key.rs: same machine, same files, best of RUNS (default 15) runs
 # that take turns. Times are of whole processes, start, reading and printing included; nothing is
-# subtracted. Not part of any timed test.
+# subtracted. Not part of any timed test. Stops after 20 seconds for each of RUNS.
 set -euo pipefail
 export LC_ALL=C
 [ $# -ge 1 ] || { echo "bench.sh KEY_PROGRAM [RUNS]" >&2; exit 2; }
-here=$(cd "$(dirname "$0")" && pwd)
-program=$(realpath "$1")
+here=$(dirname "$(readlink -f "${BASH_SOURCE[0]}")")
+program=$(realpath -e "$1")
 runs=${2:-15}
 work=$(mktemp -d)
 trap 'rm -rf "$work"' EXIT
@@ -23,6 +23,6 @@ for kind in full small chain16 chain64 chain127; do
 done
 for opponent in straight key; do
     echo "against oracle/$opponent.rs"
-    "$work/timer" "$runs" "$program" "$work/$opponent" "${files[@]}"
+    timeout $((20 * runs)) "$work/timer" "$runs" "$program" "$work/$opponent" "${files[@]}"
 done
 echo "Whole processes, best of $runs runs, nothing subtracted; ratio = program / opponent."

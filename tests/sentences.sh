@@ -5,7 +5,7 @@
 # file by its signature, as a constructor, a field or a module; in a .rt file as a function, type, constant, variant, field, module or byte string;
 # or it is a must-fail edit, a crate or a file. Where a file follows ("`walk`, `loop`, Walk"), the names before it are defined in that file. Every
 # path leads to a file or folder. Comments define nothing; what stands between quotation marks is document 01's; outside tables a name of one or
-# two letters is a variable. A page has a table with a name in it.
+# two letters is a variable; `rt ..` is a command. A page has a table with a name in it.
 set -euo pipefail
 export LC_ALL=C
 here=$(dirname "$(readlink -f "${BASH_SOURCE[0]}")")
@@ -86,6 +86,8 @@ named() { # PAGE
         }
         function flush(group, n, file,    k) {
             for (k = 1; k <= n; k++) {
+                sub(/^\.\//, "", group[k])
+                if (group[k] ~ /^rt /) continue
                 if (group[k] ~ /\// || group[k] ~ /\.(antt|rt|rs|sh|md|txt)$/) { if (group[k] !~ /[ *]/) put("", group[k]) }
                 else expression(group[k], file)
             }
