@@ -1,0 +1,33 @@
+-- Decimal numbers, digit by digit.
+use Prim.Native.Nat.{ℕ, zero, suc, _+_, _/_, _%_, _≤_, _<_}
+use native.Mathlib.Omega.{arith}
+use mathlib.Core.Path.{_≡_, refl, sym, ap}
+use mathlib.Core.Bool.{Bool, true, false}
+use mathlib.Core.List.{List, [], _∷_, _++_}
+use lib.Dec.{ltb}
+use borrow.Author.Tests.{lt-ltb, le-ltb, ltb-false}
+use Rattle.rules.specs.Key.{digit, digits, decimal}
+
+-- more steps than digits change nothing
+enough : (k j n : ℕ) (last : Bool) → last ≡ ltb n 10 → n < k → n < j → digits k n last ≡ digits j n last
+unfolding digits
+enough zero j n last e h g = absurd (omega arith)
+enough (suc k) zero n last e h g = absurd (omega arith)
+enough (suc k) (suc j) n true e h g = refl
+enough (suc k) (suc j) n false e h g =
+    let large : 10 ≤ n = ltb-false n 10 (sym e) in
+    ap (λ (l : List ℕ). l ++ (digit (n % 10) ∷ [])) (enough k j (n / 10) (ltb (n / 10) 10) refl (omega arith) (omega arith))
+
+-- a number of one digit
+pub one-digit : (n : ℕ) → n < 10 → decimal n ≡ digit (n % 10) ∷ []
+unfolding decimal digits
+one-digit n h =
+    let same : n ≡ n % 10 = omega arith in
+    rw (lt-ltb n 10 h) (ap (λ (k : ℕ). digit k ∷ []) same)
+
+-- a longer number: its last digit comes after the others
+pub last-digit : (n : ℕ) → 10 ≤ n → decimal n ≡ decimal (n / 10) ++ (digit (n % 10) ∷ [])
+unfolding decimal digits
+last-digit n h =
+    rw (le-ltb n 10 h)
+    (ap (λ (l : List ℕ). l ++ (digit (n % 10) ∷ [])) (enough n (suc (n / 10)) (n / 10) (ltb (n / 10) 10) refl (omega arith) (omega arith)))

@@ -1,0 +1,2 @@
+-- What putting text into a lent buffer means.
+pub mod Put

@@ -1,0 +1,49 @@
+// Text put into a lent buffer: bytes, decimal numbers, a refused file's line. Each function gives the place after the last byte that
+// it wrote, where the next one goes on. What has no room is cut off, so that none of them asks for room; Puts.antt in proofs says what
+// is in the buffer where there is room.
+ghost use mathlib.Core.List.{[], _∷_};
+ghost use Rattle.rules.specs.Key.{decimal, fileLine};
+ghost use Rattle.text.specs.Put.{Put};
+
+pub fn put_byte(out: &mut [u8], at: usize, byte: u8) -> usize
+    ensures { λ r. ⌜ Put (now (out .entry)) (now (out .exit)) at r (byte ∷ []) ⌝ }
+{
+    if at < out.len() {
+        out[at] = byte;
+        return at + 1;
+    }
+    at
+}
+
+pub fn put_bytes(out: &mut [u8], at: usize, text: &[u8]) -> usize
+    ensures { λ r. ⌜ Put (now (out .entry)) (now (out .exit)) at r (now (text .entry)) ⌝ }
+{
+    let mut place = at;
+    let mut i = 0;
+    while i < text.len() {
+        place = put_byte(out, place, text[i]);
+        i += 1;
+    }
+    place
+}
+
+// The last digit comes after the others.
+pub fn put_decimal(out: &mut [u8], at: usize, n: u64) -> usize
+    ensures { λ r. ⌜ Put (now (out .entry)) (now (out .exit)) at r (decimal n) ⌝ }
+{
+    let digit = 48 + ((n % 10) as u8);
+    if n < 10 {
+        return put_byte(out, at, digit);
+    }
+    let last = put_decimal(out, at, n / 10);
+    put_byte(out, last, digit)
+}
+
+// "A refused file prints one line: `file`, a space, the number."
+pub fn put_file_line(out: &mut [u8], at: usize, refusal: u8) -> usize
+    ensures { λ r. ⌜ Put (now (out .entry)) (now (out .exit)) at r (fileLine refusal) ⌝ }
+{
+    let number = put_bytes(out, at, b"file ");
+    let end = put_decimal(out, number, refusal as u64);
+    put_byte(out, end, b'\n')
+}
