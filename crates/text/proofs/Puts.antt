@@ -17,14 +17,21 @@ pub roomy : {before after : List ℕ} {at to : ℕ} {text : List ℕ} → at + l
     → (after ≡ take at before ++ text ++ drop (at + length text) before) × (to ≡ at + length text)
 roomy {before} {after} {at} {to} {text} room p =
     let whole : fitting before at text ≡ text = take-all (length before - at) text (omega arith) in
-    let end : to ≡ at + length text = p .end ∙ ap (λ (l : List ℕ). at + length l) whole in
-    (p .bytes ∙ ap (λ (l : List ℕ). take at before ++ l ++ drop to before) whole ∙ ap (λ (n : ℕ). take at before ++ text ++ drop n before) end, end)
+    let end : to ≡ at + length text = p .end ∙ ap (λ (l : List ℕ). at + length l) whole in (
+      p .bytes
+          ∙ ap (λ (l : List ℕ). take at before ++ l ++ drop to before) whole
+          ∙ ap (λ (n : ℕ). take at before ++ text ++ drop n before) end,
+      end,
+    )
 
 -- a put by what has room
 written : {before after : List ℕ} {at to : ℕ} {text : List ℕ} (part : List ℕ) → fitting before at text ≡ part
     → after ≡ take at before ++ part ++ drop to before → to ≡ at + length part → Put before after at to text
 written {before} {after} {at} {to} part e bytes end =
-    record { bytes = bytes ∙ ap (λ (l : List ℕ). take at before ++ l ++ drop to before) (sym e); end = end ∙ ap (λ (l : List ℕ). at + length l) (sym e) }
+    record {
+      bytes = bytes ∙ ap (λ (l : List ℕ). take at before ++ l ++ drop to before) (sym e);
+      end = end ∙ ap (λ (l : List ℕ). at + length l) (sym e);
+    }
 
 -- nothing put
 nothing : (before : List ℕ) (at : ℕ) (text : List ℕ) → fitting before at text ≡ [] → Put before before at at text
@@ -42,7 +49,8 @@ put-past before at text past =
 -- one store
 pub put-one : (before : List ℕ) (at byte : ℕ) → at < length before → Put before (set before at byte) at (at + 1) (byte ∷ [])
 put-one before at byte h =
-    written (byte ∷ []) (take-all (length before - at) (byte ∷ []) (omega arith)) (rw (add-one, append-snoc) (set-split before at byte h)) refl
+    written (byte ∷ []) (take-all (length before - at) (byte ∷ []) (omega arith))
+    (rw (add-one, append-snoc) (set-split before at byte h)) refl
 
 -- the buffer keeps its length
 pub keeps : {a b : List ℕ} {i j : ℕ} {xs : List ℕ} → Put a b i j xs → length b ≡ length a

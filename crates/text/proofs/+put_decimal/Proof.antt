@@ -105,7 +105,8 @@ put-decimal-returns-2 t c =
     let others = c .before .before .before .before .before .before in
     let branch = others .before .before in
     let start = branch .before .before in
-    reading (sym (last-digit (start .args .n) (branch .if1 .left))) (others .put-decimal .ensures then c .before .before .put-byte2 .ensures)
+    reading (sym (last-digit (start .args .n) (branch .if1 .left)))
+    (others .put-decimal .ensures then c .before .before .put-byte2 .ensures)
 
 pub +put-decimal-spec : {M : Type 1} → statement M
 +put-decimal-spec = close μ-put-decimal λ t. put-decimal-lts.spec (

@@ -41,7 +41,8 @@ loop-again c =
     let start = turn .before .before .before .before in
     let text = now (start .args .text) in
     let i = turn .before .loop .i in
-    let one-more : take i text ++ (getD text i 0 ∷ []) ≡ take (i + 1) text = rw add-one (sym (take-suc text i 0 (turn .loop-test .taken))) in
+    let one-more : take i text ++ (getD text i 0 ∷ []) ≡ take (i + 1) text =
+    rw add-one (sym (take-suc text i 0 (turn .loop-test .taken))) in
     (search needs, reading one-more (turn .before .loop .inv .1 then c .before .before .put-byte .ensures))
 
 same-length : tie.Need-same-length Inv-loop μ-loop

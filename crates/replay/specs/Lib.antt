@@ -1,0 +1,2 @@
+-- What a turn of a file hands back.
+pub mod Turning
