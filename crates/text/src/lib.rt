@@ -1,9 +1,13 @@
-// Text put into a lent buffer: bytes, decimal numbers, a refused file's line. Each function gives the place after the last byte that
-// it wrote, where the next one goes on. What has no room is cut off, so that none of them asks for room; Puts.antt in proofs says what
-// is in the buffer where there is room.
+// Text put into a lent buffer: bytes, decimal numbers, a refused file's line, the columns of the key's lines. Each function gives the
+// place after the last byte that it wrote, where the next one goes on. What has no room is cut off, so that none of them asks for room;
+// `roomy` in proofs/Puts.antt says what is in the buffer where there is room.
 ghost use mathlib.Core.List.{[], _∷_};
 ghost use Rattle.rules.specs.Key.{decimal, fileLine};
 ghost use Rattle.text.specs.Put.{Put};
+
+mod columns;
+
+pub use columns::put_columns;
 
 pub fn put_byte(out: &mut [u8], at: usize, byte: u8) -> usize
     ensures { λ r. ⌜ Put (now (out .entry)) (now (out .exit)) at r (byte ∷ []) ⌝ }
