@@ -11,7 +11,7 @@ use Rattle.rules.specs.Events.{Answered}
 use Rattle.rules.specs.Key.{bytes, decimal, verdictWord, runningColumns, columns, line, lines, fileLine}
 use Rattle.rules.proofs.Basics.Views.{Two, yes-true, no-false, two}
 use borrow.Author.Tests.{ltb-true, ltb-false}
-use Rattle.key_sheet.proofs.Decimals.{one-digit, last-digit}
+use Rattle.text.proofs.Decimals.{one-digit, last-digit}
 
 -- one digit more for ten times the number
 module _ (k bound : ℕ) (some : 1 ≤ k) (shorter : (m : ℕ) → m < bound → length (decimal m) ≤ k) where

@@ -1,8 +1,6 @@
-pub mod Puts
-pub mod Decimals
-pub mod Lines
 pub mod Lengths
 pub mod Sizes
 pub mod Room
-pub mod Sheets
+pub mod Printing
 pub mod Keys
+pub mod Reading

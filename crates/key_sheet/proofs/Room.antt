@@ -1,4 +1,5 @@
--- THE THEOREM of the buffer: every file of bytes has a key of at most `room` bytes, and 1 MiB always suffices.
+-- THE THEOREM of the buffer: the key of every file of bytes has room in 1 MiB, because a file has at most one event for each two of its
+-- 65,536 bytes, and a line at most 31 bytes.
 use Prim.Native.Nat.{ℕ, zero, suc, _+_, _*_, _≤_}
 use native.Mathlib.Omega.{arith}
 use mathlib.Core.Path.{_≡_, refl, ap}
@@ -18,7 +19,6 @@ use Rattle.rules.proofs.Soundness.Places.{sound-of}
 use Rattle.event_file.proofs.Accepting.{accepted}
 use Rattle.event_file.proofs.ReadThenWritten.{Bytes}
 use Rattle.event_file.proofs.Inverse.{as-written, events-fit}
-use Rattle.key_sheet.specs.Room.{roomAfter, room}
 use Rattle.key_sheet.proofs.Lengths.{lines-length, file-line-length}
 use Rattle.key_sheet.proofs.Sizes.{most, run-narrow}
 
@@ -63,7 +63,7 @@ refusal-small file =
     (most (not (eqb (getD file 4 0) 1)) 15 tt (lit≤ tt)))
 
 -- by what the file is refused for
-fits-after : (n : ℕ) (file : List ℕ) → Bytes file → fileRefusal file ≡ n → length (keyAfter n file) ≤ roomAfter n file
+fits-after : (n : ℕ) (file : List ℕ) → Bytes file → fileRefusal file ≡ n → length (keyAfter n file) ≤ 1048576
 fits-after zero file bytes h =
     let few = events-most file bytes h in
     let answers = run-length (eventsOf file) empty in
@@ -72,16 +72,8 @@ fits-after zero file bytes h =
     lines-length 1 (run (eventsOf file) empty) (run-narrow (eventsOf file) empty (events-fit file bytes) (sound-of empty empty-sound))
     (omega arith) in
     omega arith
-fits-after (suc n) file bytes h = file-line-length (suc n) (omega (arith, refusal-small file))
+fits-after (suc n) file bytes h = omega (arith, file-line-length (suc n) (omega (arith, refusal-small file)))
 
-pub key-fits : (file : List ℕ) → Bytes file → length (key file) ≤ room file
-unfolding key room
+pub key-fits : (file : List ℕ) → Bytes file → length (key file) ≤ 1048576
+unfolding key
 key-fits file bytes = fits-after (fileRefusal file) file bytes refl
-
-most-after : (n : ℕ) (file : List ℕ) → fileRefusal file ≡ n → roomAfter n file ≤ 1048576
-most-after zero file h = omega (arith, accepted file h .head .small)
-most-after (suc n) file h = omega arith
-
-pub room-most : (file : List ℕ) → room file ≤ 1048576
-unfolding room
-room-most file = most-after (fileRefusal file) file refl

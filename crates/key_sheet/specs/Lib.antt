@@ -1,5 +1,2 @@
--- What the functions that write the key say of the buffer that they are lent.
-pub mod Put
+-- A line of the key by its columns.
 pub mod Line
-pub mod Room
-pub mod Sheet

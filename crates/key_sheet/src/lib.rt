@@ -1,49 +1,43 @@
-// From a file's bytes to the bytes of its key, document 01, "Event file and key". The key is defined in rules, specs/Key.antt.
+// From a file's bytes to the bytes of its key, document 01, "Event file and key". The key is defined in rules, specs/Key.antt. The two
+// numbers that a program over this crate needs, how much it must read and how much it must write, are fixed here by contracts.
+ghost use Prim.Native.Nat.{ℕ, _<_};
 ghost use mathlib.Core.Path.{_≡_};
-ghost use Prim.Native.Nat.{_≤_};
-ghost use lib.ListN.{length};
-ghost use Rattle.key_sheet.specs.Sheet.{filled, filledAs};
+ghost use mathlib.Core.List.{List, _++_};
+ghost use lib.ListN.{length, take, drop};
+ghost use Rattle.rules.specs.Key.{key};
 
-mod digits;
-mod events;
-mod line;
+mod lines;
 
 use event_file::reader::file_refusal;
+use text::put_file_line;
 
-// Whether the buffer has room, and how many of its bytes the key fills.
-pub struct Sheet {
-    pub fits: bool,
-    pub written: usize,
+// The bytes that the key of any file has at most: proofs/Room.antt.
+pub const ROOM: usize = 1048576;
+
+// One byte more than a file may have.
+const INPUT: usize = 65537;
+
+fn zeros() -> [u8; INPUT]
+    ensures { λ r. ⌜ 65536 < length r ⌝ }
+{
+    [0; INPUT]
 }
 
-// Writes the key of a file into a lent buffer. Whether there is room is decided first, so that a buffer that is too small stays as it is.
-pub fn write_key(file: &[u8], out: &mut [u8]) -> Sheet
-    ensures { λ r. ⌜ filledAs r (now (out .exit)) ≡ filled (now (file .entry)) (now (out .entry)) ⌝ }
-    ensures within { λ r. ⌜ r .written ≤ length (now (out .exit)) ⌝ }
+// A buffer for what is read. Of an input of any length it holds enough: the key of that much is the key of the whole.
+pub fn input() -> [u8; INPUT]
+    ensures { λ r. ⌜ ((b : List ℕ) → key (take (length r) b) ≡ key b) ⌝ }
+{
+    zeros()
+}
+
+// Writes the key of a file into a lent buffer, from its front, and gives the key's length. Every other byte stays.
+pub fn write_key(file: &[u8], out: &mut [u8; ROOM]) -> usize
+    ensures { λ r. ⌜ (r ≡ length (key (now (file .entry))))
+        × (now (out .exit) ≡ key (now (file .entry)) ++ drop (length (key (now (file .entry)))) (now (out .entry))) ⌝ }
 {
     let refusal = file_refusal(file);
     if refusal != 0 {
-        if out.len() < 8 {
-            return Sheet {
-                fits: false,
-                written: 0,
-            };
-        }
-        let written = line::put_file_line(out, 0, refusal);
-        return Sheet {
-            fits: true,
-            written,
-        };
+        return put_file_line(out, 0, refusal);
     }
-    if out.len() < 16 * file.len() {
-        return Sheet {
-            fits: false,
-            written: 0,
-        };
-    }
-    let written = events::put_lines(file, out);
-    Sheet {
-        fits: true,
-        written,
-    }
+    lines::put_lines(file, out)
 }

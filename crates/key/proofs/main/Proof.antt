@@ -1,8 +1,14 @@
-use mathlib.Core.Path.{sym}
+-- What was read is within the file's buffer, and the key within its own.
+use native.Mathlib.Omega.{arith}
+use mathlib.Core.Path.{sym, ap}
+use lib.ListN.{length, length-append}
 use lib.Seq.{length-take-le}
 use borrow.Author.Needs.{needs}
 use Rattle.key.proofs.main.Statement.{statement}
 use Rattle.key.proofs.main.Tie as tie
+
+input-requires : tie.Need-input-requires
+input-requires c κs = search needs
 
 slice-aggregate-fill : tie.Need-slice-aggregate-fill
 slice-aggregate-fill c = search needs
@@ -10,11 +16,11 @@ slice-aggregate-fill c = search needs
 fill-requires : tie.Need-fill-requires
 fill-requires c κs = search needs
 
-slice-aggregate-write-all : tie.Need-slice-aggregate-write-all
-slice-aggregate-write-all c = search needs
+slice-aggregate-complain : tie.Need-slice-aggregate-complain
+slice-aggregate-complain c = search needs
 
-write-all-requires : tie.Need-write-all-requires
-write-all-requires c κs = search needs
+complain-requires : tie.Need-complain-requires
+complain-requires c κs = search needs
 
 returns : tie.Need-returns
 returns c = search needs
@@ -26,41 +32,50 @@ array-share-prefix-file : tie.Need-array-share-prefix-file
 array-share-prefix-file c = search needs
 
 slice-aggregate-write-key : tie.Need-slice-aggregate-write-key
-slice-aggregate-write-key c = sym (length-take-le _ _ (c .before .before .before .before .fill .ensures))
-
-slice-aggregate-write-key-2 : tie.Need-slice-aggregate-write-key-2
-slice-aggregate-write-key-2 c = search needs
+slice-aggregate-write-key c = sym (length-take-le _ _ (c .before .before .before .before .fill .ensures .within))
 
 write-key-requires : tie.Need-write-key-requires
 write-key-requires c κs = search needs
 
 array-share-prefix-out : tie.Need-array-share-prefix-out
-array-share-prefix-out c = search needs
+array-share-prefix-out c = omega (arith, simp length-append at (ap length (c .write-key .ensures .1)), c .write-key .ensures .0)
 
-slice-aggregate-write-all-2 : tie.Need-slice-aggregate-write-all-2
-slice-aggregate-write-all-2 c = sym (length-take-le _ _ (c .before .before .write-key .ensures .1))
+slice-aggregate-send : tie.Need-slice-aggregate-send
+slice-aggregate-send c = sym (length-take-le _ _ (array-share-prefix-out (c .before)))
 
-write-all-requires-2 : tie.Need-write-all-requires-2
-write-all-requires-2 c κs = search needs
+send-requires : tie.Need-send-requires
+send-requires c κs = search needs
+
+slice-aggregate-complain-2 : tie.Need-slice-aggregate-complain-2
+slice-aggregate-complain-2 c = search needs
+
+complain-requires-2 : tie.Need-complain-requires-2
+complain-requires-2 c κs = search needs
 
 returns-2 : tie.Need-returns-2
 returns-2 c = search needs
+
+returns-3 : tie.Need-returns-3
+returns-3 c = search needs
 
 pub main-spec : {M : Type 1} → statement M
 main-spec =
     tie.close
     (tie.spec
+    input-requires
     slice-aggregate-fill
     fill-requires
-    slice-aggregate-write-all
-    write-all-requires
+    slice-aggregate-complain
+    complain-requires
     returns
     room-requires
     array-share-prefix-file
     slice-aggregate-write-key
-    slice-aggregate-write-key-2
     write-key-requires
     array-share-prefix-out
-    slice-aggregate-write-all-2
-    write-all-requires-2
-    returns-2)
+    slice-aggregate-send
+    send-requires
+    slice-aggregate-complain-2
+    complain-requires-2
+    returns-2
+    returns-3)

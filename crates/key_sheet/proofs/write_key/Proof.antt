@@ -1,60 +1,42 @@
-use mathlib.Core.Path.{sym, _∙_}
+-- A refused file's line, or the lines of an accepted file, put at the front of a buffer that has room for every key. Lending the array as
+-- a slice brings its length.
 use native.Mathlib.Omega.{arith}
+use mathlib.Core.Path.{sym, _∙_}
 use denote.Ref.{now}
-use borrow.Author.Needs.{needs}
-use Rattle.event_file.proofs.Accepting.{accepted}
-use Rattle.key_sheet.proofs.Room.{refusal-small}
-use Rattle.key_sheet.proofs.Keys.{refused-unfilled, refused-fills, accepted-unfilled, accepted-fills}
+use Rattle.text.proofs.Puts.{reading}
+use Rattle.key_sheet.proofs.Keys.{refused-key, accepted-key, at-front}
 use Rattle.key_sheet.proofs.write_key.Statement.{statement}
 use Rattle.key_sheet.proofs.write_key.Tie as tie
 
 file-refusal-requires : tie.Need-file-refusal-requires
-file-refusal-requires c κs = search needs
+file-refusal-requires c κs = tt
+
+put-file-line-requires : tie.Need-put-file-line-requires
+put-file-line-requires c κs = tt
 
 returns : tie.Need-returns
 returns c =
-    (refused-unfilled (now (c .before .before .before .before .before .args .file)) (c .before .before .file-refusal .result) (c .before .before .file-refusal .ensures) (c .before .if1 .taken) (now (c .before .before .before .before .before .args .out)) (c .if2 .taken), search needs)
+    let lent = c .before in
+    let read = lent .before .before in
+    let file = now (read .before .before .args .file) in
+    let as-key = refused-key file (read .file-refusal .result) (read .file-refusal .ensures) (lent .before .if1 .taken) in
+    at-front file (λ i. read .before .shared-slice-known .given i .fits) (omega (arith, lent .put-file-line-arg .given .0 .1))
+    (reading as-key (c .put-file-line .ensures))
 
-put-file-line-requires : tie.Need-put-file-line-requires
-put-file-line-requires c κs = (omega (arith, c .before .before .before .file-refusal .ensures, refusal-small (now (c .before .before .before .before .before .before .args .file))), search needs)
-
-same-length : tie.Need-same-length
-same-length c = search needs
+put-lines-requires : tie.Need-put-lines-requires
+put-lines-requires c κs =
+    let read = c .before .before in
+    sym (read .file-refusal .ensures) ∙ c .before .if1 .left
 
 returns-2 : tie.Need-returns-2
 returns-2 c =
-    refused-fills (now (c .before .before .before .before .before .before .before .before .before .args .file)) (c .before .before .before .before .before .before .file-refusal .result) (c .before .before .before .before .before .before .file-refusal .ensures) (c .before .before .before .before .before .if1 .taken) (c .before .before .before .before .if2 .left)
-    (c .before .before .put-file-line .ensures)
-
-mul-if3 : tie.Need-mul-if3
-mul-if3 c =
-    record { fits = omega (arith, accepted (now (c .before .before .before .before .args .file)) (sym (c .before .file-refusal .ensures) ∙ c .if1 .left) .head .small) }
-
-returns-3 : tie.Need-returns-3
-returns-3 c =
-    (accepted-unfilled (now (c .before .before .before .before .before .args .file)) (sym (c .before .before .file-refusal .ensures) ∙ c .before .if1 .left) (now (c .before .before .before .before .before .args .out)) (c .if3 .taken), search needs)
-
-put-lines-requires : tie.Need-put-lines-requires
-put-lines-requires c κs = search needs
-
-same-length-2 : tie.Need-same-length-2
-same-length-2 c = search needs
-
-returns-4 : tie.Need-returns-4
-returns-4 c =
-    accepted-fills (now (c .before .before .before .before .before .before .before .before .before .args .file)) (sym (c .before .before .before .before .before .before .file-refusal .ensures) ∙ c .before .before .before .before .before .if1 .left) (c .before .before .before .before .if3 .left) (c .before .before .put-lines .ensures)
+    let lent = c .before in
+    let read = lent .before .before in
+    let file = now (read .before .before .args .file) in
+    let as-key = accepted-key file (sym (read .file-refusal .ensures) ∙ lent .before .if1 .left) in
+    at-front file (λ i. read .before .shared-slice-known .given i .fits) (omega (arith, lent .put-lines-arg .given .0 .1))
+    (reading as-key (c .put-lines .ensures))
 
 pub write-key-spec : {M : Type 1} → statement M
 write-key-spec =
-    tie.close
-    (tie.spec
-    file-refusal-requires
-    returns
-    put-file-line-requires
-    same-length
-    returns-2
-    mul-if3
-    returns-3
-    put-lines-requires
-    same-length-2
-    returns-4)
+    tie.close (tie.spec file-refusal-requires put-file-line-requires returns put-lines-requires returns-2)
