@@ -44,10 +44,16 @@ pub fn put_lines(file: &[u8], out: &mut [u8]) -> usize
         if !turned.event {
             return at;
         }
-        let answered = turned.answered;
-        machine = answered.machine;
+        machine = turned.answered.machine;
         let running = machine.running;
-        at = put_line(out, at, number, answered.refusal, running, answered.links);
+        at = put_line(
+            out,
+            at,
+            number,
+            turned.answered.refusal,
+            running,
+            turned.answered.links,
+        );
         offset = turned.offset;
         number += 1;
     }

@@ -28,7 +28,7 @@ use Rattle.dispatcher.specs.Shown.{shown, stored, soundMachine, emptyMachine}
 use Rattle.dispatcher.specs.Promise.{Answers}
 use Rattle.dispatcher.proofs.Runs.{empty-machine-sound, dispatched-sound}
 use Rattle.replay.specs.declared.Turned.{Turned}
-use Rattle.replay.specs.Turning.{Given, Turns}
+use Rattle.replay.specs.Turning.{isEvent, Given, Turns}
 
 -- from the offset on the file reads as events, and these are the answers to them from the machine m on
 pub record Ahead (file : List ℕ) (offset : ℕ) (m : Machine) (answers : List events.Answered) : Type 0 where
@@ -124,13 +124,13 @@ module _ {file : List ℕ} {offset : ℕ} {m : Machine} {answers : List events.A
       let n = reads-next file offset (a .events) (a .low) h (a .reads) in
       let e = n .next in
       let rest = n .rest in
-      let given : Given (event e) m r = subst (λ (f : Found). Given f m r) (n .found) (t .given) in
+      let given : Given (event e) m (r .answered) = subst (λ (f : Found). Given f m (r .answered)) (n .found) (t .given) in
       let moved : r .offset ≡ offset + 1 + getD file offset 0 = t .offset ∙ n .moved in
       let fit : (fits e && allFit rest) ≡ true = rw (n .split) at (a .fit) in
       let shows = and-true-right (stored m) (sound (shown m)) (a .sound) in
-      let answer : events.offer e (shown m) ≡ answerOf (r .answered) = offer-sound e (shown m) shows ∙ sym (answer-of (given .1)) in
+      let answer : events.offer e (shown m) ≡ answerOf (r .answered) = offer-sound e (shown m) shows ∙ sym (answer-of given) in
       let first = ap (λ (x : events.Answered). x ∷ run rest (x .state)) answer in (
-        given .0,
+        t .event ∙ ap isEvent (n .found),
         record {
           later = run rest (shown (r .answered .machine));
           split = sym (a .answered) ∙ ap (λ (l : List Event). run l (shown m)) (n .split) ∙ first;
@@ -141,7 +141,7 @@ module _ {file : List ℕ} {offset : ℕ} {m : Machine} {answers : List events.A
                 low = omega (arith, a .low);
                 inside = omega (arith, n .inside);
                 fit = and-true-right (fits e) (allFit rest) fit;
-                sound = dispatched-sound e m (r .answered) (and-true-left (fits e) (allFit rest) fit) (a .sound) (given .1);
+                sound = dispatched-sound e m (r .answered) (and-true-left (fits e) (allFit rest) fit) (a .sound) given;
                 answered = refl;
               };
           further = omega arith;
@@ -153,10 +153,9 @@ module _ {file : List ℕ} {offset : ℕ} {m : Machine} {answers : List events.A
   unfolding run
   none-at-end h =
       let found : stepped file offset .found ≡ end = sym (ap (λ (s : Stepped). s .found) (stepped-end file offset (a .low) h)) in
-      let given : Given end m r = subst (λ (f : Found). Given f m r) found (t .given) in
       let past : length file ≤ offset = omega arith in
       let none-left : a .events ≡ [] = at-end (a .events) (rw (drop-of-length-le file past) at (a .reads)) in
-      (given .0, sym (a .answered) ∙ ap (λ (l : List Event). run l (shown m)) none-left)
+      (t .event ∙ ap isEvent found, sym (a .answered) ∙ ap (λ (l : List Event). run l (shown m)) none-left)
 
   -- an event: its answer is the next one
   pub goes-on : r .event ≡ true → Next file offset answers r

@@ -41,7 +41,7 @@ put-line-requires c κs = tt
 
 add-number : tie.Need-add-number Inv-loop μ-loop
 add-number c =
-    let event = c .before .before .before .before .before .before in
+    let event = c .before .before .before .before .before in
     let turned = event .before .before in
     let going = turned .before .loop .inv in
     let on = further going (turned .turn .ensures) (not-false _ (event .if1 .left)) in
@@ -49,14 +49,14 @@ add-number c =
 
 loop-less : tie.Need-loop-less Inv-loop μ-loop
 loop-less c =
-    let event = c .before .before .before .before .before .before in
+    let event = c .before .before .before .before .before in
     let turned = event .before .before in
     let going = turned .before .loop .inv in
     omega (arith, further going (turned .turn .ensures) (not-false _ (event .if1 .left)))
 
 loop-again : tie.Need-loop-again Inv-loop μ-loop
 loop-again c =
-    let event = c .before .before .before .before .before .before in
+    let event = c .before .before .before .before .before in
     let turned = event .before .before in
     let going = turned .before .loop .inv in
     next going (turned .turn .ensures) (not-false _ (event .if1 .left)) (c .before .before .put-line .ensures)
