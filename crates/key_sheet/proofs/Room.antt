@@ -12,7 +12,8 @@ use Rattle.rules.specs.declared.Event.the-variants.{Create, Give, Call, Reply, 
 use Rattle.rules.specs.State.{State, empty}
 use Rattle.rules.specs.Events.{offer}
 use Rattle.rules.specs.Lists.{run}
-use Rattle.rules.specs.EventFile.{recordOf, recordsOf, fileOf, lengthField, headRefusal, recordsIn, isNone, fileRefusalAfter, fileRefusal, eventsOf}
+use Rattle.rules.specs.EventFile.{recordOf, recordsOf, fileOf, lengthField, headRefusal, recordsIn, isNone}
+use Rattle.rules.specs.EventFile.{fileRefusalAfter, fileRefusal, eventsOf}
 use Rattle.rules.specs.Key.{keyAfter, key}
 use Rattle.rules.proofs.Demands.{empty-sound}
 use Rattle.rules.proofs.Soundness.Places.{sound-of}
@@ -59,7 +60,8 @@ pub refusal-small : (file : List ℕ) → fileRefusal file ≤ 16
 unfolding fileRefusal
 refusal-small file =
     refused-small (headRefusal file) file
-    (most (ltb (length file) 4 || ltb 65536 (length file) || eqb (lengthField file) 0 || not (eqb (lengthField file + 4) (length file))) 14 tt
+    (most
+    (ltb (length file) 4 || ltb 65536 (length file) || eqb (lengthField file) 0 || not (eqb (lengthField file + 4) (length file))) 14 tt
     (most (not (eqb (getD file 4 0) 1)) 15 tt (lit≤ tt)))
 
 -- by what the file is refused for
