@@ -2,7 +2,7 @@
 use native.Mathlib.Omega.{arith}
 use mathlib.Core.Path.{sym}
 use borrow.Author.Needs.{needs}
-use Rattle.text.proofs.Puts.{_then_, reading, keeps}
+use Rattle.text.proofs.Puts.{_then_, reading}
 use Rattle.text.proofs.Decimals.{one-digit, last-digit}
 use Prim.Native.Nat.{ℕ, _<_}
 use borrow.Fn.Kinds.{In}
