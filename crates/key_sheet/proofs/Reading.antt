@@ -11,12 +11,17 @@ use Rattle.rules.specs.EventFile.{fileRefusal}
 use Rattle.rules.specs.Key.{fileLine, key}
 use Rattle.rules.proofs.Basics.Views.{Two, yes-true, no-false, two}
 
--- a file of more than 65,536 bytes
-too-long : (file : List ℕ) → 65536 < length file → key file ≡ fileLine 14
-unfolding key fileRefusal
+-- a file of more than 65,536 bytes is refused
+pub too-long : (file : List ℕ) → 65536 < length file → fileRefusal file ≡ 14
+unfolding fileRefusal
 too-long file h =
     let four : 4 ≤ length file = omega arith in
     simp (lt-ltb _ _ h, le-ltb _ _ four)
+
+-- and its key is that refusal's line
+long-key : (file : List ℕ) → 65536 < length file → key file ≡ fileLine 14
+unfolding key
+long-key file h = rw (too-long file h)
 
 -- so what follows the first 65,537 bytes changes nothing
 pub enough-read : (n : ℕ) → 65536 < n → (b : List ℕ) → key (take n b) ≡ key b
@@ -28,4 +33,4 @@ enough-read n more b = by (two (ltb (length b) n))
         ap key (take-all n b (omega arith))
     by (no-false h) =
         let long : n ≤ length b = ltb-false (length b) n h in
-        too-long (take n b) (omega (arith, length-take-le n b long)) ∙ sym (too-long b (omega arith))
+        long-key (take n b) (omega (arith, length-take-le n b long)) ∙ sym (long-key b (omega arith))

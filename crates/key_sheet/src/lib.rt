@@ -11,10 +11,10 @@ mod lines;
 use event_file::reader::file_refusal;
 use text::put_file_line;
 
-// The bytes that the key of any file has at most: proofs/Room.antt.
+// Room for the key of every file: `key-fits`, proofs/Room.antt.
 pub const ROOM: usize = 1048576;
 
-// One byte more than a file may have.
+// One byte more than a file may have: `enough-read`, proofs/Reading.antt.
 const INPUT: usize = 65537;
 
 fn zeros() -> [u8; INPUT]
