@@ -32,15 +32,25 @@ pub fn put_bytes(out: &mut [u8], at: usize, text: &[u8]) -> usize
 }
 
 // The last digit comes after the others.
-pub fn put_decimal(out: &mut [u8], at: usize, n: u64) -> usize
+fn put_digits(out: &mut [u8], at: usize, n: u64) -> usize
     ensures { λ r. ⌜ Put (now (out .entry)) (now (out .exit)) at r (decimal n) ⌝ }
 {
     let digit = 48 + ((n % 10) as u8);
     if n < 10 {
         return put_byte(out, at, digit);
     }
-    let last = put_decimal(out, at, n / 10);
+    let last = put_digits(out, at, n / 10);
     put_byte(out, last, digit)
+}
+
+// Most numbers of a key have one digit: those need no call.
+pub fn put_decimal(out: &mut [u8], at: usize, n: u64) -> usize
+    ensures { λ r. ⌜ Put (now (out .entry)) (now (out .exit)) at r (decimal n) ⌝ }
+{
+    if n < 10 {
+        return put_byte(out, at, 48 + ((n % 10) as u8));
+    }
+    put_digits(out, at, n)
 }
 
 // "A refused file prints one line: `file`, a space, the number."
