@@ -4,16 +4,16 @@ use native.Mathlib.Omega.{arith}
 use mathlib.Core.Path.{_≡_, refl, ap}
 use mathlib.Core.List.{List, [], _∷_}
 use mathlib.Core.Bool.{not, _||_}
-use lib.ListN.{length, getD, length-append}
+use lib.ListN.{length, getD}
 use lib.Dec.{ltb, eqb, lit≤}
 use Rattle.rules.specs.declared.Event.{Event}
-use Rattle.rules.specs.declared.Event.the-variants.{Create, Give, Call, Reply, Block, Wake, Charge, Abort}
 use Rattle.rules.specs.State.{State, empty}
 use Rattle.rules.specs.Events.{offer}
 use Rattle.rules.specs.Lists.{run}
-use Rattle.rules.specs.EventFile.{recordOf, recordsOf, fileOf, lengthField, headRefusal, recordsIn, isNone, fileRefusalAfter, fileRefusal, eventsOf}
+use Rattle.rules.specs.EventFile.{fileOf, lengthField, headRefusal, recordsIn, isNone, fileRefusalAfter, fileRefusal, eventsOf}
 use Rattle.rules.specs.Key.{keyAfter, key}
 use Rattle.rules.proofs.Demands.{empty-sound}
+use Rattle.rules.proofs.Files.Records.{records-length}
 use Rattle.rules.proofs.Soundness.Places.{sound-of}
 use Rattle.event_file.proofs.Accepting.{accepted}
 use Rattle.event_file.proofs.ReadThenWritten.{Bytes}
@@ -22,23 +22,7 @@ use Rattle.key_sheet.specs.Room.{roomAfter, room}
 use Rattle.key_sheet.proofs.Lengths.{lines-length, file-line-length}
 use Rattle.key_sheet.proofs.Sizes.{most, run-narrow}
 
--- a record has two bytes or more
-record-length : (e : Event) → 2 ≤ length (recordOf e)
-record-length (Create n r) = omega arith
-record-length (Give t n priority quantum) = omega arith
-record-length (Call server) = omega arith
-record-length Reply = omega arith
-record-length Block = omega arith
-record-length (Wake n) = omega arith
-record-length (Charge units) = omega arith
-record-length (Abort n) = omega arith
-
-records-length : (es : List Event) → 2 * length es ≤ length (recordsOf es)
-unfolding recordsOf
-records-length [] = omega arith
-records-length (e ∷ es) = rw length-append (omega (arith, record-length e, records-length es))
-
--- so a file has at most half as many events as bytes
+-- a record has two bytes or more, so a file has at most half as many events as bytes
 pub events-most : (file : List ℕ) → Bytes file → fileRefusal file ≡ 0 → 5 + 2 * length (eventsOf file) ≤ length file
 unfolding fileOf
 events-most file bytes h =
@@ -59,7 +43,9 @@ pub refusal-small : (file : List ℕ) → fileRefusal file ≤ 16
 unfolding fileRefusal
 refusal-small file =
     refused-small (headRefusal file) file
-    (most (ltb (length file) 4 || ltb 65536 (length file) || eqb (lengthField file) 0 || not (eqb (lengthField file + 4) (length file))) 14 tt
+    (most
+    (ltb (length file) 4 || ltb 65536 (length file) || eqb (lengthField file) 0 || not (eqb (lengthField file + 4) (length file)))
+    14 tt
     (most (not (eqb (getD file 4 0) 1)) 15 tt (lit≤ tt)))
 
 -- by what the file is refused for

@@ -2,6 +2,7 @@
 pub mod Computing
 pub mod MarkedSequences
 pub mod Basics
+pub mod Files
 pub mod Links
 pub mod Order
 pub mod Soundness

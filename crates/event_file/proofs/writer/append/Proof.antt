@@ -53,8 +53,10 @@ put-length-requires : tie.Need-put-length-requires
 put-length-requires c κs =
     let at-else = c .before .before .before .before .before .before in
     let at-size = c .before .before .before .before .before in
-    let event = at-else .before .before .before .before .args .event in
-    let same-size = ap length (c .before .before .before .put-record .ensures) ∙ length-sets _ _ (recordOf event) in (
+    let given = at-else .before .before .before .before .args in
+    let same-size =
+    ap length (c .before .before .before .put-record .ensures)
+    ∙ length-sets (now (given .buffer)) (given .filled) (recordOf (given .event)) in (
       omega (arith, same-size, five at-else, may-add at-else .room),
       omega (arith, may-add at-else .small, at-size .record-length .ensures .0),
     )
