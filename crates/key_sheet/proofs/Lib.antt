@@ -2,7 +2,6 @@ pub mod Puts
 pub mod Decimals
 pub mod Lines
 pub mod Lengths
-pub mod Sizes
 pub mod Room
 pub mod Sheets
 pub mod Keys

@@ -10,4 +10,5 @@ pub mod Tables
 pub mod Choosing
 pub mod Events
 pub mod Agreement
+pub mod Bounds
 pub mod Demands

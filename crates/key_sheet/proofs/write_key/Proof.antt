@@ -3,7 +3,7 @@ use native.Mathlib.Omega.{arith}
 use denote.Ref.{now}
 use borrow.Author.Needs.{needs}
 use Rattle.event_file.proofs.Accepting.{accepted}
-use Rattle.key_sheet.proofs.Room.{refusal-small}
+use Rattle.rules.proofs.Bounds.{refusal-small}
 use Rattle.key_sheet.proofs.Keys.{refused-unfilled, refused-fills, accepted-unfilled, accepted-fills}
 use Rattle.key_sheet.proofs.write_key.Statement.{statement}
 use Rattle.key_sheet.proofs.write_key.Tie as tie

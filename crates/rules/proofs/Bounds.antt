@@ -1,36 +1,36 @@
--- On a sound machine every column of the key is a small number.
+-- How large the numbers of an answer can be: a refusal's is one of document 01's, and on a sound machine the links are bounded by L and T,
+-- and these by the number of slots.
 use Prim.Native.Nat.{ℕ, zero, suc, _+_, _*_, _≤_, _<_}
 use native.Mathlib.Nat.{mul-le-mul}
 use native.Mathlib.Omega.{arith}
 use mathlib.Core.Path.{_≡_, refl, sym, ap, _∙_}
 use mathlib.Core.List.{List, [], _∷_, map}
-use mathlib.Core.Bool.{Bool, true, false, not, _||_}
+use mathlib.Core.Bool.{Bool, true, false}
 use lib.ListN.{length, length-map, List·getD-eq-default}
-use lib.Dec.{T, leb, ltb, eqb, leb→le, lit≤}
+use lib.Dec.{T, leb, ltb, leb→le, lit≤}
 use borrow.Author.Tests.{ltb-true, ltb-false}
 use Rattle.rules.specs.declared.Thread.{Thread}
 use Rattle.rules.specs.declared.Chain.{Chain}
 use Rattle.rules.specs.declared.Running.{Running}
 use Rattle.rules.specs.declared.Running.the-variants.{Nothing, Runs}
 use Rattle.rules.specs.declared.Event.{Event}
 use Rattle.rules.specs.declared.Event.the-variants.{Create, Give, Call, Reply, Block, Wake, Charge, Abort}
 use Rattle.rules.specs.Tests.{member, distinct}
-use Rattle.rules.specs.State.{State, Plain, forget, freeThread, ownerAt, holdAt, liveAt, sliceAt, oneMoreIf, liveThreads, nothingRuns, runningThread, currentTimeslice}
+use Rattle.rules.specs.State.{State, Plain, forget, freeThread, ownerAt, liveAt, oneMoreIf, liveThreads}
 use Rattle.rules.specs.Walk.{Link, noLinks}
-use Rattle.rules.specs.Refusals.{_gives_else_, aboveLimit, ownsOne, refusal}
-use Rattle.rules.specs.Holds.{serverAt, isBlocked, linked}
-use Rattle.rules.specs.Events.{dispatchAfter, dispatch, offerIf, offer}
+use Rattle.rules.specs.Refusals.{_gives_else_, refusal}
+use Rattle.rules.specs.Events.{Answered, dispatchAfter, dispatch, offerIf, offer}
 use Rattle.rules.specs.Sound.{sound}
 use Rattle.rules.specs.Lists.{fits, allFit, run}
+use Rattle.rules.specs.EventFile.{headRefusal, fileRefusalAfter, fileRefusal}
 use Rattle.rules.proofs.Basics.Views.{Two, yes-true, no-false, two, clash, and-true-left, and-true-right}
 use Rattle.rules.proofs.Basics.Members.{member-here, member-there, distinct-head, distinct-tail, image-of, map-distinct}
 use Rattle.rules.proofs.Links.Counting.{liveThat, liveThat-at-most, liveThat-more}
 use Rattle.rules.proofs.Links.Chains.{To, stop, call, help, walk-ends, walk-links}
 use Rattle.rules.proofs.Soundness.Standings.{links-live}
 use Rattle.rules.proofs.Soundness.Places.{Sound, owner, owner-live}
 use Rattle.rules.proofs.Events.Hands.{linkLimit, active}
 use Rattle.rules.proofs.Agreement.{agrees}
-use Rattle.key_sheet.proofs.Lengths.{RunsNarrow, AllNarrow}
 
 -- the first fitting number is within a bound if every number is
 pub most : {bound rest : ℕ} (b : Bool) (k : ℕ) → T (leb k bound) → rest ≤ bound → (b gives k else rest) ≤ bound
@@ -38,44 +38,23 @@ most {bound} true k h g = leb→le k bound h
 most {bound} false k h g = g
 
 -- every refusal number is at most 13
-refusal-most : (e : Event) (p : Plain) → refusal e p ≤ 13
-refusal-most (Create n r) p =
-    most (aboveLimit n) 2 tt (
-    most (liveAt (p .threads) n) 3 tt (lit≤ tt))
-refusal-most (Give t n priority quantum) p =
-    most (aboveLimit t || aboveLimit n) 2 tt (
-    most (member t (p .order)) 3 tt (
-    most (not (liveAt (p .threads) n)) 4 tt (
-    most (ownsOne p n) 13 tt (
-    most (eqb quantum 0) 12 tt (lit≤ tt)))))
-refusal-most (Call server) p =
-    most (nothingRuns (p .running)) 5 tt (
-    most (aboveLimit server) 2 tt (
-    most (not (liveAt (p .threads) server)) 4 tt (
-    most (not (serverAt (p .threads) server)) 6 tt (
-    most (eqb server (runningThread (p .running))) 7 tt (lit≤ tt)))))
-refusal-most Reply p =
-    most (nothingRuns (p .running)) 5 tt (
-    most (not (serverAt (p .threads) (runningThread (p .running)))) 8 tt (lit≤ tt))
-refusal-most Block p =
-    most (nothingRuns (p .running)) 5 tt (lit≤ tt)
-refusal-most (Wake n) p =
-    most (aboveLimit n) 2 tt (
-    most (not (liveAt (p .threads) n)) 4 tt (
-    most (not (isBlocked (holdAt (p .threads) n))) 9 tt (lit≤ tt)))
-refusal-most (Charge units) p =
-    most (nothingRuns (p .running)) 5 tt (
-    most (eqb units 0 || ltb (sliceAt (p .slices) (currentTimeslice (p .running)) .left) units) 11 tt (lit≤ tt))
-refusal-most (Abort n) p =
-    most (aboveLimit n) 2 tt (
-    most (not (liveAt (p .threads) n)) 4 tt (
-    most (not (linked (holdAt (p .threads) n))) 10 tt (lit≤ tt)))
+ruleset refusal-numbers = (most, lit≤)
+
+pub refusal-most : (e : Event) (p : Plain) → refusal e p ≤ 13
+refusal-most (Create n r) p = search refusal-numbers depth 7
+refusal-most (Give t n priority quantum) p = search refusal-numbers depth 7
+refusal-most (Call server) p = search refusal-numbers depth 7
+refusal-most Reply p = search refusal-numbers depth 7
+refusal-most Block p = search refusal-numbers depth 7
+refusal-most (Wake n) p = search refusal-numbers depth 7
+refusal-most (Charge units) p = search refusal-numbers depth 7
+refusal-most (Abort n) p = search refusal-numbers depth 7
 
 after-most : (k : ℕ) (e : Event) (s : State) → k ≤ 13 → dispatchAfter k e s .refusal ≤ 13
 after-most zero e s h = h
 after-most (suc k) e s h = h
 
-offer-most : (e : Event) (s : State) → offer e s .refusal ≤ 13
+pub offer-most : (e : Event) (s : State) → offer e s .refusal ≤ 13
 unfolding offer dispatch
 offer-most e s = by (sound s)
   where
@@ -84,7 +63,7 @@ offer-most e s = by (sound s)
     by false = omega arith
 
 -- there are as many threads as slots, or fewer
-live-most : (ts : List Thread) → liveThreads ts ≤ length ts
+pub live-most : (ts : List Thread) → liveThreads ts ≤ length ts
 unfolding liveThreads
 live-most [] = omega arith
 live-most (t ∷ ts) = by (t .live) (live-most ts)
@@ -94,7 +73,7 @@ live-most (t ∷ ts) = by (t .live) (live-most ts)
     by false h = omega arith
 
 -- a live thread has a slot
-live-below : (ts : List Thread) (n : ℕ) → liveAt ts n ≡ true → n < length ts
+pub live-below : (ts : List Thread) (n : ℕ) → liveAt ts n ≡ true → n < length ts
 live-below ts n e = by (two (ltb n (length ts)))
   where
     by : Two (ltb n (length ts)) → n < length ts
@@ -103,13 +82,27 @@ live-below ts n e = by (two (ltb n (length ts)))
         clash true refl (sym e ∙ ap (λ (t : Thread). t .live) (List·getD-eq-default ts freeThread (ltb-false n (length ts) h)))
 
 -- a chain has no more donations than links
-count-most : {ln : ℕ → Link} {n m : ℕ} {c d : Chain} → c .count ≤ c .links → To ln n c m d → d .count ≤ d .links
+pub count-most : {ln : ℕ → Link} {n m : ℕ} {c d : Chain} → c .count ≤ c .links → To ln n c m d → d .count ≤ d .links
 count-most h stop = h
 count-most h (call l p) = count-most (omega arith) p
 count-most h (help l p) = count-most (omega arith) p
 
--- what runs
-runs-narrow : (s : State) → Sound s → (r : Running) → s .running ≡ r → RunsNarrow r
+-- an answer whose refusal number and running numbers are bytes, and its links a number of two bytes
+abbrev pub RunsNarrow : Running → Type 0
+RunsNarrow Nothing = Unit {0}
+RunsNarrow (Runs n t count) = (n < 256) × (t < 256) × (count < 256)
+
+pub record Narrow (a : Answered) : Type 0 where
+  pub refusal : a .refusal < 256
+  pub running : RunsNarrow (a .state .running)
+  pub links : a .links < 65536
+
+abbrev pub AllNarrow : List Answered → Type 0
+AllNarrow [] = Unit {0}
+AllNarrow (a ∷ rest) = Narrow a × AllNarrow rest
+
+-- what runs on a sound machine
+pub runs-narrow : (s : State) → Sound s → (r : Running) → s .running ≡ r → RunsNarrow r
 runs-narrow s x Nothing e = tt
 runs-narrow s x (Runs n t count) e =
     let a = active s x n t count e in
@@ -133,7 +126,7 @@ listed-live ts (n ∷ ns) d live =
     omega (arith, listed-live ts ns (distinct-tail n ns d) (λ m h. live m (member-there m n ns h)))
 
 -- each timeslice has a live owner of its own, so there are no more timeslices than threads
-timeslices-most : (s : State) → Sound s → length (s .order) ≤ liveThreads (s .threads)
+pub timeslices-most : (s : State) → Sound s → length (s .order) ≤ liveThreads (s .threads)
 timeslices-most s x =
     let turns = x .mid .shape .turns in
     let owners = map (λ t. ownerAt (s .slices) t) (s .order) in
@@ -143,7 +136,7 @@ timeslices-most s x =
     omega (arith, length-map (s .order) (λ t. ownerAt (s .slices) t), liveThat-at-most (λ n. member n owners) (s .threads))
 
 -- the links of an event
-links-most : (s : State) → Sound s → linkLimit (forget s) ≤ 128 * 130
+pub links-most : (s : State) → Sound s → linkLimit (forget s) ≤ 128 * 130
 links-most s x =
     let live : liveThreads (s .threads) ≤ 128 = omega (arith, live-most (s .threads), x .mid .shape .sane .full) in
     let timeslices : length (s .order) + 2 ≤ 130 = omega (arith, timeslices-most s x) in
@@ -162,3 +155,18 @@ run-narrow (e ∷ es) s f x =
       },
       run-narrow es (offer e s .state) (and-true-right (fits e) (allFit es) f) (a .sound),
     )
+
+-- as many answers as events
+pub run-length : (es : List Event) (s : State) → length (run es s) ≡ length es
+unfolding run
+run-length [] s = refl
+run-length (e ∷ es) s = ap suc (run-length es (offer e s .state))
+
+-- a file is refused with 14, 15 or 16
+refused-small : (n : ℕ) (file : List ℕ) → n ≤ 16 → fileRefusalAfter n file ≤ 16
+refused-small zero file h = search refusal-numbers
+refused-small (suc n) file h = h
+
+pub refusal-small : (file : List ℕ) → fileRefusal file ≤ 16
+unfolding fileRefusal
+refusal-small file = refused-small (headRefusal file) file (search refusal-numbers)
