@@ -3,12 +3,11 @@
 use Prim.Native.Nat.{ℕ, zero, suc, _+_, _*_, _≤_, _<_}
 use native.Mathlib.Nat.{mul-le-mul}
 use native.Mathlib.Omega.{arith}
-use mathlib.Core.Path.{_≡_, refl, sym, ap, _∙_}
+use mathlib.Core.Path.{_≡_, refl, ap}
 use mathlib.Core.List.{List, [], _∷_, map}
 use mathlib.Core.Bool.{Bool, true, false}
-use lib.ListN.{length, length-map, List·getD-eq-default}
-use lib.Dec.{T, leb, ltb, leb→le, lit≤}
-use borrow.Author.Tests.{ltb-true, ltb-false}
+use lib.ListN.{length, length-map}
+use lib.Dec.{T, leb, leb→le, lit≤}
 use Rattle.rules.specs.declared.Thread.{Thread}
 use Rattle.rules.specs.declared.Chain.{Chain}
 use Rattle.rules.specs.declared.Running.{Running}
@@ -16,15 +15,16 @@ use Rattle.rules.specs.declared.Running.the-variants.{Nothing, Runs}
 use Rattle.rules.specs.declared.Event.{Event}
 use Rattle.rules.specs.declared.Event.the-variants.{Create, Give, Call, Reply, Block, Wake, Charge, Abort}
 use Rattle.rules.specs.Tests.{member, distinct}
-use Rattle.rules.specs.State.{State, Plain, forget, freeThread, ownerAt, liveAt, oneMoreIf, liveThreads}
+use Rattle.rules.specs.State.{State, Plain, forget, limit, ownerAt, liveAt, oneMoreIf, liveThreads}
 use Rattle.rules.specs.Walk.{Link, noLinks}
 use Rattle.rules.specs.Refusals.{_gives_else_, refusal}
 use Rattle.rules.specs.Events.{Answered, dispatchAfter, dispatch, offerIf, offer}
 use Rattle.rules.specs.Sound.{sound}
 use Rattle.rules.specs.Lists.{fits, allFit, run}
 use Rattle.rules.specs.EventFile.{headRefusal, fileRefusalAfter, fileRefusal}
-use Rattle.rules.proofs.Basics.Views.{Two, yes-true, no-false, two, clash, and-true-left, and-true-right}
+use Rattle.rules.proofs.Basics.Views.{and-true-left, and-true-right}
 use Rattle.rules.proofs.Basics.Members.{member-here, member-there, distinct-head, distinct-tail, image-of, map-distinct}
+use Rattle.rules.proofs.Tables.Writes.{within}
 use Rattle.rules.proofs.Links.Counting.{liveThat, liveThat-at-most, liveThat-more}
 use Rattle.rules.proofs.Links.Chains.{To, stop, call, help, walk-ends, walk-links}
 use Rattle.rules.proofs.Soundness.Standings.{links-live}
@@ -72,20 +72,28 @@ live-most (t ∷ ts) = by (t .live) (live-most ts)
     by true h = omega arith
     by false h = omega arith
 
--- a live thread has a slot
-pub live-below : (ts : List Thread) (n : ℕ) → liveAt ts n ≡ true → n < length ts
-live-below ts n e = by (two (ltb n (length ts)))
-  where
-    by : Two (ltb n (length ts)) → n < length ts
-    by (yes-true h) = ltb-true n (length ts) h
-    by (no-false h) =
-        clash true refl (sym e ∙ ap (λ (t : Thread). t .live) (List·getD-eq-default ts freeThread (ltb-false n (length ts) h)))
-
 -- a chain has no more donations than links
 pub count-most : {ln : ℕ → Link} {n m : ℕ} {c d : Chain} → c .count ≤ c .links → To ln n c m d → d .count ≤ d .links
 count-most h stop = h
 count-most h (call l p) = count-most (omega arith) p
 count-most h (help l p) = count-most (omega arith) p
+
+-- what runs on a sound machine: the count is at most L
+pub running-most : (s : State) → Sound s → (n t count : ℕ) → s .running ≡ Runs n t count
+    → (n < limit) × (t < limit) × (count ≤ liveThreads (s .threads))
+running-most s x n t count e =
+    let a = active s x n t count e in
+    let shape = x .mid .shape in
+    let found = walk-ends (s .threads) (links-live (shape .sane)) (owner s t) (owner-live s shape t (a .listed)) (a .runs .ends) in
+    let links : a .runs .chain .links ≤ liveThreads (s .threads) = rw found at (walk-links (s .threads) (owner s t)) in (
+      omega (arith, within (s .threads) n (a .live), shape .sane .full),
+      shape .turns .small t (a .listed),
+      omega (arith, count-most {c = noLinks} (omega arith) (a .runs .ends .path), a .runs .counted),
+    )
+
+-- L is at most the number of slots
+pub sound-live-most : (s : State) → Sound s → liveThreads (s .threads) ≤ limit
+sound-live-most s x = omega (arith, live-most (s .threads), x .mid .shape .sane .full)
 
 -- an answer whose refusal number and running numbers are bytes, and its links a number of two bytes
 abbrev pub RunsNarrow : Running → Type 0
@@ -101,19 +109,11 @@ abbrev pub AllNarrow : List Answered → Type 0
 AllNarrow [] = Unit {0}
 AllNarrow (a ∷ rest) = Narrow a × AllNarrow rest
 
--- what runs on a sound machine
 pub runs-narrow : (s : State) → Sound s → (r : Running) → s .running ≡ r → RunsNarrow r
 runs-narrow s x Nothing e = tt
 runs-narrow s x (Runs n t count) e =
-    let a = active s x n t count e in
-    let shape = x .mid .shape in
-    let found = walk-ends (s .threads) (links-live (shape .sane)) (owner s t) (owner-live s shape t (a .listed)) (a .runs .ends) in
-    let links : a .runs .chain .links ≤ liveThreads (s .threads) = rw found at (walk-links (s .threads) (owner s t)) in
-    let full = shape .sane .full in (
-      omega (arith, live-below (s .threads) n (a .live), full),
-      omega (arith, shape .turns .small t (a .listed)),
-      omega (arith, count-most {c = noLinks} (omega arith) (a .runs .ends .path), a .runs .counted, live-most (s .threads), full),
-    )
+    let m = running-most s x n t count e in
+    (omega (arith, m .0), omega (arith, m .1), omega (arith, m .2, sound-live-most s x))
 
 -- different numbers of live threads are no more than the live threads
 listed-live : (ts : List Thread) (ns : List ℕ) → distinct ns ≡ true → ((n : ℕ) → member n ns ≡ true → liveAt ts n ≡ true)
@@ -138,7 +138,7 @@ timeslices-most s x =
 -- the links of an event
 pub links-most : (s : State) → Sound s → linkLimit (forget s) ≤ 128 * 130
 links-most s x =
-    let live : liveThreads (s .threads) ≤ 128 = omega (arith, live-most (s .threads), x .mid .shape .sane .full) in
+    let live : liveThreads (s .threads) ≤ 128 = sound-live-most s x in
     let timeslices : length (s .order) + 2 ≤ 130 = omega (arith, timeslices-most s x) in
     mul-le-mul live timeslices
 

@@ -23,7 +23,8 @@ pub accepted-sound : (e : Event) (s : State) → fits e ≡ true → sound s ≡
 accepted-sound e s f h = of-sound (offer e s .state) (agrees e s (sound-of s h) f .sound)
 
 -- DEMAND 1, refused. On every machine, sound or not, a refused event gives the machine as it was, and no link is followed.
-refused-after : (k : ℕ) (e : Event) (s : State) → (dispatchAfter k e s .refusal ≡ 0 → ⊥) → (dispatchAfter k e s .state ≡ s) × (dispatchAfter k e s .links ≡ 0)
+refused-after : (k : ℕ) (e : Event) (s : State) → (dispatchAfter k e s .refusal ≡ 0 → ⊥)
+    → (dispatchAfter k e s .state ≡ s) × (dispatchAfter k e s .links ≡ 0)
 refused-after zero e s n = absurd (n refl)
 refused-after (suc k) e s n = (refl, refl)
 
@@ -38,11 +39,13 @@ refused-same e s n = refused-if (sound s) e s n
 
 -- DEMAND 3. For every list of events of all kinds, refused ones included, from every sound machine, after each event the refusal
 -- number, the running thread, the paying timeslice, the donation count and all links are the plain machine's.
-seen-same : (e : Event) (s : State) → Agrees s (offer e s) (plainOffer e (forget s)) → seen (offer e s) ≡ plainSeen (plainOffer e (forget s))
+seen-same : (e : Event) (s : State) → Agrees s (offer e s) (plainOffer e (forget s))
+    → seen (offer e s) ≡ plainSeen (plainOffer e (forget s))
 seen-same e s a =
     λ i. record { refusal = a .refusal i; running = a .plain i .running; links = linksOf (a .plain i .threads) }
 
-pub equal-from : (es : List Event) (s : State) → allFit es ≡ true → sound s ≡ true → map seen (run es s) ≡ map plainSeen (plainRun es (forget s))
+pub equal-from : (es : List Event) (s : State) → allFit es ≡ true → sound s ≡ true
+    → map seen (run es s) ≡ map plainSeen (plainRun es (forget s))
 unfolding run plainRun allFit
 equal-from [] s f h = refl
 equal-from (e ∷ es) s f h =
@@ -76,7 +79,8 @@ within-from (e ∷ es) s f h =
 pub within : (es : List Event) → allFit es ≡ true → WithinLimits es empty emptyPlain
 within es f = within-from es empty f empty-sound
 
--- THE KEY'S COLUMNS. Every column of the key but the last is the plain machine's, for every file whose events fit (as those read from bytes do).
+-- THE KEY'S COLUMNS. Every column of the key but the last is the plain machine's, for every file whose events fit (as those read from
+-- bytes do).
 seenLines : ℕ → List Seen → List ℕ
 seenLines number [] = []
 seenLines number (a ∷ rest) = columns number (a .refusal) (a .running) ++ bytes "\n" ++ seenLines (number + 1) rest

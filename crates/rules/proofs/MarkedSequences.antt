@@ -65,7 +65,8 @@ placesOf (x ∷ xs) = x .place ∷ placesOf xs
 unfoldable pub machineAfter : Row → State
 machineAfter r = after (eventsOf (r .file)) empty
 
--- what the definitions make of a row: what the key program prints, what the plain machine answers, the places, and whether the machine is sound
+-- what the definitions make of a row: what the key program prints, what the plain machine answers, the places, and whether the machine
+-- is sound
 pub record Result : Type 0 where
   pub printed : List ℕ
   pub plain : List ℕ
@@ -215,5 +216,6 @@ unfoldable pub rows : List Row
 rows = K1 ∷ K2 ∷ K3 ∷ K4 ∷ K5 ∷ K6 ∷ K7 ∷ K8 ∷ K9 ∷ K10 ∷ K11 ∷ ownTimeslice ∷ []
 
 pub marked : All Meets rows
-unfolding computing linesText plainLinesText text plainText stands placesOf machineAfter result expected K1 two twoPrints K2 K3 four fourPrints K4 K5 K6 seven sevenPrints K7 K8 K9 K10 K11 ownTimeslice rows
+unfolding computing linesText plainLinesText text plainText stands placesOf machineAfter result expected K1 two twoPrints K2 K3 four
+    fourPrints K4 K5 K6 seven sevenPrints K7 K8 K9 K10 K11 ownTimeslice rows
 marked = (refl, (refl, (refl, (refl, (refl, (refl, (refl, (refl, (refl, (refl, (refl, (refl, tt))))))))))))

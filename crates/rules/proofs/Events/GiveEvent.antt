@@ -31,7 +31,7 @@ use Rattle.rules.proofs.Soundness.Standings.{RunsAt}
 use Rattle.rules.proofs.Soundness.Places.{Settled, runs-on, Sound}
 use Rattle.rules.proofs.Basics.Accepting.{passes}
 use Rattle.rules.proofs.Files.Records.{give-fits}
-use Rattle.rules.proofs.Tables.Slices.{Retimed, owner-kept, stay, retimed-mid, retimed-top}
+use Rattle.rules.proofs.Choosing.Slices.{Retimed, owner-kept, stay, retimed-mid, retimed-top}
 use Rattle.rules.proofs.Events.Hands.{Handed, active, linkLimit}
 
 -- the record of a new timeslice: "left = quantum"

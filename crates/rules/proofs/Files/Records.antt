@@ -1,5 +1,5 @@
 -- A record is its length, its kind and its operands, so what holds of every record needs no case for each kind.
-use Prim.Native.Nat.{ℕ, _+_, _*_, _≤_}
+use Prim.Native.Nat.{ℕ, _*_, _≤_}
 use mathlib.Core.Path.{_≡_}
 use mathlib.Core.List.{List, [], _∷_}
 use mathlib.Core.Bool.{true}
@@ -8,7 +8,6 @@ use lib.ListN.{length, length-append}
 use borrow.Author.Tests.{leb-true}
 use Rattle.rules.specs.declared.Event.{Event}
 use Rattle.rules.specs.declared.Event.the-variants.{Give}
-use Rattle.rules.specs.Tests.{all}
 use Rattle.rules.specs.EventFile.{highByte, recordOf, recordsOf}
 use Rattle.rules.specs.Lists.{byte, fits}
 use Rattle.rules.proofs.Basics.Members.{all-head, all-tail}
