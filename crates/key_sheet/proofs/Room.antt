@@ -1,28 +1,20 @@
 -- THE THEOREM of the buffer: every file of bytes has a key of at most `room` bytes, and 1 MiB always suffices.
 use Prim.Native.Nat.{ℕ, zero, suc, _+_, _*_, _≤_}
 use native.Mathlib.Omega.{arith}
-use mathlib.Core.Path.{_≡_, refl, ap}
+use mathlib.Core.Path.{_≡_, refl}
 use mathlib.Core.List.{List}
 use lib.ListN.{length}
 use Rattle.rules.specs.State.{empty}
 use Rattle.rules.specs.Lists.{run}
-use Rattle.rules.specs.EventFile.{fileOf, fileRefusal, eventsOf}
+use Rattle.rules.specs.EventFile.{Bytes, fileRefusal, eventsOf}
 use Rattle.rules.specs.Key.{keyAfter, key}
 use Rattle.rules.proofs.Demands.{empty-sound}
-use Rattle.rules.proofs.Files.Records.{records-length}
 use Rattle.rules.proofs.Bounds.{run-narrow, run-length, refusal-small}
 use Rattle.rules.proofs.Soundness.Places.{sound-of}
-use Rattle.event_file.proofs.Accepting.{accepted}
-use Rattle.event_file.proofs.ReadThenWritten.{Bytes}
-use Rattle.event_file.proofs.Inverse.{as-written, events-fit}
+use Rattle.rules.proofs.Files.Accepting.{accepted}
+use Rattle.rules.proofs.Files.Inverse.{events-fit, events-most}
 use Rattle.key_sheet.specs.Room.{roomAfter, room}
 use Rattle.key_sheet.proofs.Lengths.{lines-length, file-line-length}
-
--- a record has two bytes or more, so a file has at most half as many events as bytes
-pub events-most : (file : List ℕ) → Bytes file → fileRefusal file ≡ 0 → 5 + 2 * length (eventsOf file) ≤ length file
-unfolding fileOf
-events-most file bytes h =
-    omega (arith, ap length (as-written file bytes h), records-length (eventsOf file))
 
 -- by what the file is refused for
 fits-after : (n : ℕ) (file : List ℕ) → Bytes file → fileRefusal file ≡ n → length (keyAfter n file) ≤ roomAfter n file

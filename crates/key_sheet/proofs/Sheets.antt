@@ -14,16 +14,15 @@ use Rattle.rules.specs.State.{State, empty}
 use Rattle.rules.specs.Sound.{sound}
 use Rattle.rules.specs.Events.{dispatch}
 use Rattle.rules.specs.Lists.{fits, allFit, run}
-use Rattle.rules.specs.EventFile.{recordAt, joined, eventsAfter, fileRefusal, eventsOf, event, Stepped, steppedTo, stepped}
+use Rattle.rules.specs.EventFile.{Bytes, recordAt, joined, eventsAfter, fileRefusal, eventsOf, event, Stepped, steppedTo, stepped}
 use Rattle.rules.specs.Key.{lines}
 use Rattle.rules.proofs.Basics.Views.{and-true-left, and-true-right, and-true-both}
 use Rattle.rules.proofs.Agreement.{offer-sound}
 use Rattle.rules.proofs.Demands.{accepted-sound, empty-sound}
-use Rattle.event_file.proofs.Reading.{eventsAfter-drop, record-inside}
-use Rattle.event_file.proofs.Cursor.{stepped-at}
-use Rattle.event_file.proofs.Accepting.{accepted}
-use Rattle.event_file.proofs.ReadThenWritten.{Bytes}
-use Rattle.event_file.proofs.Inverse.{events-fit}
+use Rattle.rules.proofs.Files.Reading.{eventsAfter-drop, record-inside}
+use Rattle.rules.proofs.Files.Stepping.{stepped-at}
+use Rattle.rules.proofs.Files.Accepting.{accepted}
+use Rattle.rules.proofs.Files.Inverse.{events-fit, events-most}
 use Rattle.event_file.specs.declared.reader.Found.{Found}
 use Rattle.event_file.specs.declared.reader.Found.the-variants.{Record, End, Bad}
 use Rattle.event_file.specs.Answers.{shownFound}
@@ -37,7 +36,6 @@ use Rattle.key_sheet.specs.Put.{Put}
 use Rattle.key_sheet.specs.Line.{lineBytes, linesOf}
 use Rattle.key_sheet.proofs.Puts.{_then_, put-none, up-to-end, reading}
 use Rattle.key_sheet.proofs.Lines.{next-line, no-lines}
-use Rattle.key_sheet.proofs.Room.{events-most}
 
 -- the buffer was `before`; the next event is read at `offset`, has this number and goes to the machine s; its line goes to `at`
 pub record Going (file before now : List ℕ) (at offset number : ℕ) (s : State) : Type 0 where

@@ -2,7 +2,7 @@ use mathlib.Core.Path.{sym, _∙_}
 use native.Mathlib.Omega.{arith}
 use denote.Ref.{now}
 use borrow.Author.Needs.{needs}
-use Rattle.event_file.proofs.Accepting.{accepted}
+use Rattle.rules.proofs.Files.Accepting.{accepted}
 use Rattle.rules.proofs.Bounds.{refusal-small}
 use Rattle.key_sheet.proofs.Keys.{refused-unfilled, refused-fills, accepted-unfilled, accepted-fills}
 use Rattle.key_sheet.proofs.write_key.Statement.{statement}

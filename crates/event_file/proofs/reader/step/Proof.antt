@@ -2,7 +2,8 @@
 use denote.Ref.{now}
 use mathlib.Core.Path.{ap}
 use Rattle.rules.specs.EventFile.{Stepped}
-use Rattle.event_file.proofs.Cursor.{stepped-end, stepped-low, stepped-past, stepped-record}
+use Rattle.rules.proofs.Files.Stepping.{stepped-end, stepped-low, stepped-past}
+use Rattle.event_file.proofs.Cursor.{stepped-record}
 use borrow.Author.Needs.{needs}
 use Rattle.event_file.proofs.reader.step.Statement.{statement}
 use Rattle.event_file.proofs.reader.step.Tie as tie

@@ -4,11 +4,11 @@ use mathlib.Core.List.{List}
 use native.Mathlib.Omega.{arith}
 use lib.ListN.{length}
 use lib.Seq.{sets, length-sets}
-use Rattle.event_file.proofs.Accepting.{Addable, addable, addable-five}
+use Rattle.rules.proofs.Files.Accepting.{Addable, addable, addable-five}
 use denote.Ref.{now}
 use mathlib.Core.Path.{ap, sym, _∙_}
 use Rattle.rules.specs.EventFile.{Written, recordOf, fourBytes}
-use Rattle.event_file.proofs.Writing.{appended-accepted, appended-refused}
+use Rattle.rules.proofs.Files.Writing.{appended-accepted, appended-refused}
 use borrow.Author.Needs.{needs}
 use Rattle.event_file.proofs.writer.append.Statement.{statement}
 use Rattle.event_file.proofs.writer.append.Tie as tie

@@ -1,5 +1,5 @@
 -- Reading and writing undo each other: the theorems about event files.
-use Prim.Native.Nat.{ℕ, _≤_}
+use Prim.Native.Nat.{ℕ, _+_, _*_, _≤_}
 use mathlib.Core.Path.{_≡_, refl, ap, sym, _∙_}
 use mathlib.Core.List.{List}
 use mathlib.Core.Bool.{true}
@@ -7,16 +7,17 @@ use mathlib.Core.Option.{Option, none, some}
 use native.Mathlib.Omega.{arith}
 use lib.ListN.{length, take, drop}
 use lib.Seq.{take-append-seam, drop-append-seam}
 use Rattle.rules.specs.declared.Event.{Event}
 use Rattle.rules.specs.Lists.{fits, allFit}
-use Rattle.rules.specs.EventFile.{fileOf, recordsIn, orNone, fileRefusal, eventsOf, event, stepped, Written}
-use Rattle.event_file.specs.Steps.{eventsFrom, writtenAll}
-use Rattle.event_file.proofs.Accepting.{accepted}
-use Rattle.event_file.proofs.Cursor.{found-record}
-use Rattle.event_file.proofs.WrittenThenRead.{accepted-back, eventsOf-back}
-use Rattle.event_file.proofs.ReadThenWritten.{Bytes, bytes-drop, record-fits, file-written, all-fit}
-use Rattle.event_file.proofs.Stepwise.{steps-collect}
-use Rattle.event_file.proofs.Appending.{Holds, holds-all}
+use Rattle.rules.specs.EventFile.{Bytes, fileOf, recordsIn, orNone, fileRefusal, eventsOf, event, stepped, Written}
+use Rattle.rules.specs.Steps.{eventsFrom, writtenAll}
+use Rattle.rules.proofs.Files.Records.{records-length}
+use Rattle.rules.proofs.Files.Accepting.{accepted}
+use Rattle.rules.proofs.Files.Stepping.{found-record}
+use Rattle.rules.proofs.Files.WrittenThenRead.{length-fileOf, accepted-back, eventsOf-back}
+use Rattle.rules.proofs.Files.ReadThenWritten.{bytes-drop, record-fits, file-written, all-fit}
+use Rattle.rules.proofs.Files.Stepwise.{steps-collect}
+use Rattle.rules.proofs.Files.Appending.{Holds, holds-all}
 
 -- 1. The file of every list of events, if not too long, is accepted and read back as that list. No operand need fit its bytes.
 pub reads-back : (es : List Event) → length (fileOf es) ≤ 65536 → (fileRefusal (fileOf es) ≡ 0) × (eventsOf (fileOf es) ≡ es)
@@ -71,3 +72,8 @@ appends es buffer room small =
       first-bytes = rw (h .filled, h .buffer) (take-append-seam (fileOf es) _);
       other-bytes = rw (h .filled, h .buffer) (drop-append-seam (fileOf es) _);
     }
+
+-- 5. A record has two bytes or more, so a file has at most half as many events as bytes.
+pub events-most : (file : List ℕ) → Bytes file → fileRefusal file ≡ 0 → 5 + 2 * length (eventsOf file) ≤ length file
+events-most file bytes h =
+    omega (arith, ap length (as-written file bytes h), length-fileOf (eventsOf file), records-length (eventsOf file))

@@ -5,25 +5,21 @@ use mathlib.Core.List.{List, [], _∷_, _++_}
 use mathlib.Core.Bool.{Bool, true, false, cond}
 use mathlib.Core.Option.{Option, none, some}
 use native.Mathlib.Omega.{arith}
-use lib.ListN.{length, getD, take, drop, take-append-drop}
+use lib.ListN.{length, take, drop, take-append-drop}
 use lib.Seq.{length-take-le, getD-drop}
 use lib.Dec.{leb, eqb}
 use borrow.Author.Tests.{le-leb, leb-true, eqb-true}
 use Rattle.rules.specs.declared.Event.{Event}
 use Rattle.rules.specs.declared.Event.the-variants.{Call, Reply, Block, Wake, Charge, Abort}
 use Rattle.rules.specs.Tests.{all}
 use Rattle.rules.specs.Lists.{byte, fits, allFit}
-use Rattle.rules.specs.EventFile.{wordOf, highByte, lowByte, kindOf, operandsOf, recordOf, recordsOf, fourBytes, fileOf}
+use Rattle.rules.specs.EventFile.{Bytes, wordOf, highByte, lowByte, kindOf, operandsOf, recordOf, recordsOf, fourBytes, fileOf}
 use Rattle.rules.specs.EventFile.{noOperand, oneByte, oneWord, createFrom, giveFrom, eventOf, bodyOf, recordAt}
 use Rattle.rules.specs.EventFile.{joined, eventsAfter, recordsIn}
-use Rattle.rules.proofs.Basics.Views.{and-true-both}
+use Rattle.rules.proofs.Basics.Views.{Two, yes-true, no-false, two, and-true-both}
 use Rattle.rules.proofs.Basics.Members.{all-cons}
-use Rattle.event_file.proofs.Reading.{Two, yes-true, no-false, two, eventsAfter-cons}
-use Rattle.event_file.proofs.Accepting.{Headed}
-
--- every element is a byte, as of a lent slice
-abbrev pub Bytes : List ℕ → Type 0
-Bytes l = (i : ℕ) → getD l i 0 < 256
+use Rattle.rules.proofs.Files.Reading.{eventsAfter-cons}
+use Rattle.rules.proofs.Files.Accepting.{Headed}
 
 -- where bytes are read as an event, they are its kind and its operands
 abbrev Good : List ℕ → Option Event → Type 0

@@ -4,16 +4,16 @@ use mathlib.Core.Path.{_≡_, refl, ap, ap₂, _∙_}
 use mathlib.Core.List.{List, [], _∷_, _++_}
 use mathlib.Core.Option.{Option, some}
 use native.Mathlib.Omega.{arith}
-use lib.ListN.{length, drop, length-append}
+use lib.ListN.{length, length-append}
 use lib.Seq.{take-append-seam, drop-append-seam}
 use borrow.Author.Tests.{le-leb}
 use Rattle.rules.specs.declared.Role.the-variants.{Client, Server}
 use Rattle.rules.specs.declared.Event.{Event}
 use Rattle.rules.specs.declared.Event.the-variants.{Create, Give, Call, Reply, Block, Wake, Charge, Abort}
 use Rattle.rules.specs.EventFile.{wordOf, highByte, lowByte, kindOf, operandsOf, recordOf, recordsOf, fourBytes, fileOf}
 use Rattle.rules.specs.EventFile.{bodyOf, recordAt, joined, eventsAfter, lengthField, recordsIn, orNone, fileRefusal, eventsOf}
-use Rattle.event_file.proofs.Reading.{eventsAfter-cons}
-use Rattle.event_file.proofs.Accepting.{Headed, unrefused}
+use Rattle.rules.proofs.Files.Reading.{eventsAfter-cons}
+use Rattle.rules.proofs.Files.Accepting.{Headed, unrefused}
 
 -- two bytes hold their number
 word-back : (n : ℕ) → wordOf (highByte n) (lowByte n) ≡ n
