@@ -9,12 +9,12 @@ use Rattle.rules.specs.EventFile.{recordAt, steppedTo, stepped}
 use Rattle.rules.specs.EventFile as file
 use Rattle.rules.proofs.Files.Stepping.{stepped-at}
 use Rattle.event_file.specs.declared.reader.Stepped.{Stepped}
-use Rattle.event_file.specs.Answers.{foundOf, movedTo, shownFound}
+use Rattle.event_file.specs.Answers.{foundOf, movedTo, shownFound, refusalOf}
 use Rattle.event_file.proofs.Reading.{stepAt}
 
 -- the answer of the code, as document 01 has it
 abbrev pub shown : Stepped → file.Stepped
-shown r = record { found = shownFound (r .found); offset = r .offset }
+shown r = record { found = shownFound (r .found); refusal = refusalOf (r .found); offset = r .offset }
 
 shown-moved : (o : Option Event) (at next : ℕ) → shown (movedTo (foundOf o) at next) ≡ steppedTo at next o
 shown-moved none at next = refl

@@ -85,7 +85,7 @@ pub record Ahead (file : List ℕ) (offset : ℕ) (left : List Event) : Type 0 w
   pub next : Event
   pub rest : List Event
   pub split : left ≡ next ∷ rest
-  pub step : stepped file offset ≡ record { found = event next; offset = offset + 1 + getD file offset 0 }
+  pub step : stepped file offset ≡ record { found = event next; refusal = 0; offset = offset + 1 + getD file offset 0 }
   pub reads : eventsAfter 0 (drop (offset + 1 + getD file offset 0) file) ≡ some rest
   pub inside : offset + 1 + getD file offset 0 ≤ length file
 

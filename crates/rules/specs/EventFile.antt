@@ -182,7 +182,7 @@ openedAs (suc number) = record { refusal = suc number; offset = 0 }
 unfoldable pub opened : List ℕ → Opened
 opened file = openedAs (fileRefusal file)
 
--- what a step finds: an event, the file's end, or the refusal 16
+-- what a step finds: an event, the file's end, or no good record
 pub data Found : Type 0 where
   event : Event → Found
   end : Found
@@ -190,19 +190,20 @@ pub data Found : Type 0 where
 
 pub record Stepped : Type 0 where
   pub found : Found
+  pub refusal : ℕ
   pub offset : ℕ
 
 -- "A step that reads a record moves the offset to the byte after it." The others keep the offset.
 abbrev pub steppedTo : ℕ → ℕ → Option Event → Stepped
-steppedTo at next none = record { found = bad; offset = at }
-steppedTo at next (some e) = record { found = event e; offset = next }
+steppedTo at next none = record { found = bad; refusal = 16; offset = at }
+steppedTo at next (some e) = record { found = event e; refusal = 0; offset = next }
 
 -- "A step first gives 16 at an offset below 5 or past the end; then, at the file's end, it says so; then it gives 16 where no good
 -- record begins."
 unfoldable pub stepped : List ℕ → ℕ → Stepped
 stepped file at =
-    cond (ltb at 5 || ltb (length file) at) (record { found = bad; offset = at })
-    (cond (eqb at (length file)) (record { found = end; offset = at })
+    cond (ltb at 5 || ltb (length file) at) (record { found = bad; refusal = 16; offset = at })
+    (cond (eqb at (length file)) (record { found = end; refusal = 0; offset = at })
     (steppedTo at (at + 1 + getD file at 0) (recordAt (drop at file))))
 
 -- what writing hands back: the refusal number, the bytes filled, and the whole buffer

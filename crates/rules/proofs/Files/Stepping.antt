@@ -11,7 +11,7 @@ use borrow.Author.Tests.{eq-eqb, ne-eqb, le-ltb, lt-ltb}
 use Rattle.rules.specs.declared.Event.{Event}
 use Rattle.rules.specs.Refusals.{_gives_else_}
 use Rattle.rules.specs.EventFile.{recordAt, recordsIn, isNone, headRefusal, fileRefusalAfter, fileRefusal, openedAs, opened}
-use Rattle.rules.specs.EventFile.{event, end, bad, steppedTo, stepped}
+use Rattle.rules.specs.EventFile.{event, end, bad, Stepped, steppedTo, stepped}
 
 -- the head's refusal comes first
 head-first : (n : ℕ) (file : List ℕ) → (n ≡ 0 → ⊥) → n ≡ fileRefusalAfter n file
@@ -43,15 +43,16 @@ unfolding opened
 opened-accepted file n e h = ap openedAs (sym h ∙ e)
 
 -- a step outside the records: below 5, past the end, at the end
-pub stepped-low : (file : List ℕ) (at : ℕ) → at < 5 → record { found = bad; offset = at } ≡ stepped file at
+pub stepped-low : (file : List ℕ) (at : ℕ) → at < 5 → record { found = bad; refusal = 16; offset = at } ≡ stepped file at
 unfolding stepped
 stepped-low file at h = simp (lt-ltb _ _ h)
 
-pub stepped-past : (file : List ℕ) (at : ℕ) → 5 ≤ at → length file < at → record { found = bad; offset = at } ≡ stepped file at
+pub stepped-past : (file : List ℕ) (at : ℕ) → 5 ≤ at → length file < at
+    → record { found = bad; refusal = 16; offset = at } ≡ stepped file at
 unfolding stepped
 stepped-past file at low h = simp (le-ltb _ _ low, lt-ltb _ _ h)
 
-pub stepped-end : (file : List ℕ) (at : ℕ) → 5 ≤ at → at ≡ length file → record { found = end; offset = at } ≡ stepped file at
+pub stepped-end : (file : List ℕ) (at : ℕ) → 5 ≤ at → at ≡ length file → record { found = end; refusal = 0; offset = at } ≡ stepped file at
 unfolding stepped
 stepped-end file at low e =
     let h : at ≤ length file = omega arith in
@@ -67,18 +68,38 @@ stepped-at file at low h =
     let inside : at ≡ length file → ⊥ = omega arith in
     simp (le-ltb _ _ low, le-ltb _ _ within, ne-eqb _ _ inside)
 
+-- every step is one of three: it reads a record and moves past it, finds the file's end, or is refused with 16; the last two keep the
+-- offset
+pub data Steps (at next : ℕ) : Stepped → Type 0 where
+  reads : (e : Event) → Steps at next (record { found = event e; refusal = 0; offset = next })
+  ends : Steps at next (record { found = end; refusal = 0; offset = at })
+  refuses : Steps at next (record { found = bad; refusal = 16; offset = at })
+
+-- the tests of a step: outside the records, at the end; then what stands there
+abbrev tested : Bool → Bool → ℕ → ℕ → Option Event → Stepped
+tested outside ended at next o =
+    cond outside (record { found = bad; refusal = 16; offset = at })
+    (cond ended (record { found = end; refusal = 0; offset = at }) (steppedTo at next o))
+
+by-tests : (outside ended : Bool) (at next : ℕ) (o : Option Event) → Steps at next (tested outside ended at next o)
+by-tests true ended at next o = refuses
+by-tests false true at next o = ends
+by-tests false false at next none = refuses
+by-tests false false at next (some e) = reads e
+
+pub step-is : (file : List ℕ) (at : ℕ) → Steps at (at + 1 + getD file at 0) (stepped file at)
+unfolding stepped
+step-is file at =
+    by-tests (ltb at 5 || ltb (length file) at) (eqb at (length file)) at (at + 1 + getD file at 0) (recordAt (drop at file))
+
 -- a step finds an event only where a good record begins
-picked :
-    (outside ended : Bool) (o : Option Event) (at next : ℕ) (e : Event) →
-    cond outside (record { found = bad; offset = at })
-    (cond ended (record { found = end; offset = at }) (steppedTo at next o)) .found ≡ event e →
-    o ≡ some e
-picked true ended o at next e h = let z : _≡_ {A = ℕ} 0 1 = cc in absurd (omega arith)
-picked false true o at next e h = let z : _≡_ {A = ℕ} 0 1 = cc in absurd (omega arith)
-picked false false none at next e h = let z : _≡_ {A = ℕ} 0 1 = cc in absurd (omega arith)
-picked false false (some x) at next e h = cc
+picked : (outside ended : Bool) (at next : ℕ) (o : Option Event) (e : Event) → tested outside ended at next o .found ≡ event e → o ≡ some e
+picked true ended at next o e h = let z : _≡_ {A = ℕ} 0 1 = cc in absurd (omega arith)
+picked false true at next o e h = let z : _≡_ {A = ℕ} 0 1 = cc in absurd (omega arith)
+picked false false at next none e h = let z : _≡_ {A = ℕ} 0 1 = cc in absurd (omega arith)
+picked false false at next (some x) e h = cc
 
 pub found-record : (file : List ℕ) (at : ℕ) (e : Event) → stepped file at .found ≡ event e → recordAt (drop at file) ≡ some e
 unfolding stepped
 found-record file at e h =
-    picked (ltb at 5 || ltb (length file) at) (eqb at (length file)) (recordAt (drop at file)) at (at + 1 + getD file at 0) e h
+    picked (ltb at 5 || ltb (length file) at) (eqb at (length file)) at (at + 1 + getD file at 0) (recordAt (drop at file)) e h

@@ -43,7 +43,7 @@ use denote.Triple.Walked.{says, Stays, stay-none-slice, walkOf, goes-none-slice,
 use denote.Exit.{yes}
 use denote.Triple.Clauses.{ensured, lasts}
 use Rattle.rules.specs.EventFile as file
-use Rattle.event_file.specs.Answers.{shownFound}
+use Rattle.event_file.specs.Answers.{shownFound, refusalOf}
 use Rattle.event_file.specs.declared.lent.Reader.{Reader}
 use Rattle.event_file.specs.declared.reader.Found.{Found}
 use Rattle.event_file.specs.declared.reader.Stepped.{Stepped}
@@ -80,17 +80,27 @@ abbrev Opened : Reader → ℕ → Reader → Type 0
 Opened h n h′ = (n ≡ file.opened (now (h .file)) .refusal) × (h′ .file ≡ h .file) × (h′ .offset ≡ file.opened (now (h .file)) .offset)
 
 abbrev Moved : Reader → Found → Reader → Type 0
-Moved h f h′ = (shownFound f ≡ file.stepped (now (h .file)) (h .offset) .found) × (h′ .file ≡ h .file) × (h′ .offset ≡ file.stepped (now (h .file)) (h .offset) .offset)
+Moved h f h′ =
+    (shownFound f ≡ file.stepped (now (h .file)) (h .offset) .found)
+    × (h′ .file ≡ h .file)
+    × (h′ .offset ≡ file.stepped (now (h .file)) (h .offset) .offset)
+    × (refusalOf f ≡ file.stepped (now (h .file)) (h .offset) .refusal)
 
 -- what the result says of the file s
 abbrev First : RefT (List ℕ) → Found → ℕ → Type 0
-First s f n = (shownFound f ≡ file.stepped (now s) (file.opened (now s) .offset) .found) × (n ≡ file.stepped (now s) (file.opened (now s) .offset) .offset)
+First s f n =
+    (shownFound f ≡ file.stepped (now s) (file.opened (now s) .offset) .found)
+    × (n ≡ file.stepped (now s) (file.opened (now s) .offset) .offset)
+    × (refusalOf f ≡ file.stepped (now s) (file.opened (now s) .offset) .refusal)
 
 -- the three together
 first : (s : RefT (List ℕ)) (h₀ h₁ h₂ : Reader) (n : ℕ) (f : Found) → h₀ .file ≡ s → Opened h₀ n h₁ → Moved h₁ f h₂ → First s f (h₂ .offset)
 first s h₀ h₁ h₂ n f e₀ e₁ e₂ =
-    let same : file.stepped (now (h₁ .file)) (h₁ .offset) ≡ file.stepped (now s) (file.opened (now s) .offset) = λ i. file.stepped (now ((e₁ .1 ∙ e₀) i)) ((e₁ .2 ∙ ap (λ (x : RefT (List ℕ)). file.opened (now x) .offset) e₀) i) in
-    (e₂ .0 ∙ ap (λ (x : file.Stepped). x .found) same, e₂ .2 ∙ ap (λ (x : file.Stepped). x .offset) same)
+    let same : file.stepped (now (h₁ .file)) (h₁ .offset) ≡ file.stepped (now s) (file.opened (now s) .offset) = λ i. file.stepped (now ((e₁ .1 ∙ e₀) i)) ((e₁ .2 ∙ ap (λ (x : RefT (List ℕ)). file.opened (now x) .offset) e₀) i) in (
+      e₂ .0 ∙ ap (λ (x : file.Stepped). x .found) same,
+      e₂ .2 ∙ ap (λ (x : file.Stepped). x .offset) same,
+      e₂ .3 ∙ ap (λ (x : file.Stepped). x .refusal) same,
+    )
 
 -- the machine values of a `Found` and of the result
 abbrev foundVal : Found → Val

@@ -42,7 +42,7 @@ use denote.Triple.Spec.{Meets, tripleOf}
 use denote.Triple.Table.{entered, cited}
 use denote.Triple.Walked.{says, Stays, stay-ref, walkOf, goes-ref, Walks, ends-at, walked, walk-meets}
 use Rattle.rules.specs.EventFile as file
-use Rattle.event_file.specs.Answers.{shownFound}
+use Rattle.event_file.specs.Answers.{shownFound, refusalOf}
 use Rattle.event_file.specs.declared.lent.Reader.{Reader}
 use Rattle.event_file.specs.declared.reader.Found.{Found}
 use Rattle.event_file.specs.declared.reader.Stepped.{Stepped}
@@ -97,7 +97,10 @@ module _ {M : Type 1} (𝓤 : URA M) (H : Heap 𝓤) (A : Atoms 𝓤) (W : Given
   to = (((κ′, tt), (q′, tt), tt, (h .file, (h .offset, tt)), passed), tt)
 
   abbrev Said : Stepped → Type 0
-  Said r = (shownFound (r .found) ≡ file.stepped (now (h .file)) (h .offset) .found) × (r .offset ≡ file.stepped (now (h .file)) (h .offset) .offset)
+  Said r =
+      (shownFound (r .found) ≡ file.stepped (now (h .file)) (h .offset) .found)
+      × (r .offset ≡ file.stepped (now (h .file)) (h .offset) .offset)
+      × (refusalOf (r .found) ≡ file.stepped (now (h .file)) (h .offset) .refusal)
 
   said : (r : Stepped) → ent 𝓤 (ensured 𝓤 H A step.ended (step.clauses 𝓤 H A at-mem run) (κ′, tt) (h .file, (h .offset, tt)) tt r) (fact 𝓤 (Said r))
   said r = exE 𝓤 _ (λ ws. snd∗ 𝓤 (sem 𝓤 H A (lasts step.ended (κ′, tt) (h .file, (h .offset, tt)) ws)) (fact 𝓤 (Said r)))
@@ -125,7 +128,7 @@ module _ {M : Type 1} (𝓤 : URA M) (H : Heap 𝓤) (A : Atoms 𝓤) (W : Given
       → ent 𝓤 (⋆ 𝓤 H A (‵ (fobs γ (B κ′ .coded .code (moved h (r .offset)))) ∷ ‵ (fbor κ (Body (mem (B κ′)) b o γ)) ∷ ‵ (flft κ q) ∷ (‵ (flft κ′ q′) ⊛ ‵ ftrue) ∷ ‵ (F.the-row .own (r .found) (foundVal (r .found) ∷ [])) ∷ [])) (Post (foundVal (r .found)))
   exits r e =
       qed W (‵ (fobs γ (B κ′ .coded .code (moved h (r .offset)))) ∷ ‵ (fbor κ (Body (mem (B κ′)) b o γ)) ∷ ‵ (flft κ q) ∷ (‵ (flft κ′ q′) ⊛ ‵ ftrue) ∷ ‵ (F.the-row .own (r .found) (foundVal (r .found) ∷ [])) ∷ []) ∵
-      suffices ! _ (ends-at 𝓤 H A next.ended stayed (next.clauses 𝓤 H A at-mem run) W (((κ, (κ′, tt)), (q, (q′, tt)), bounds, x, at), tt) (foundVal (r .found)) (r .found) (moved h (r .offset), tt) (tt, tt)) $ says ! (e .0, refl, e .1) $
+      suffices ! _ (ends-at 𝓤 H A next.ended stayed (next.clauses 𝓤 H A at-mem run) W (((κ, (κ′, tt)), (q, (q′, tt)), bounds, x, at), tt) (foundVal (r .found)) (r .found) (moved h (r .offset), tt) (tt, tt)) $ says ! (e .0, refl, e .1, e .2) $
       move ! (2 ∷ 3 ∷ []) $ join ! $ frame ! $ feqI ! (List Val) (vptr b o ∷ []) (vptr b o ∷ []) refl $ fjoin3 ! $ nothing ! $ move ! (1 ∷ 0 ∷ []) $ fjoin ! $ done !
 
   module _ (C : Calls 𝓤 H) (Λ : Loops 𝓤 H) (fm : FmC 𝓤 H (W .laws) C) (known : Triple 𝓤 (C #step) (Step 𝓤 H A at-mem run)) where
