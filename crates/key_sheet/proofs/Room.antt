@@ -1,5 +1,5 @@
 -- THE THEOREM of the buffer: every file of bytes has a key of at most `room` bytes, and 1 MiB always suffices.
-use Prim.Native.Nat.{ℕ, zero, suc, _+_, _*_, _≤_}
+use Prim.Native.Nat.{ℕ, zero, suc, _≤_}
 use native.Mathlib.Omega.{arith}
 use mathlib.Core.Path.{_≡_, refl}
 use mathlib.Core.List.{List}

@@ -4,7 +4,7 @@ use native.Mathlib.Omega.{arith}
 use mathlib.Core.Path.{_≡_, refl, sym, ap, _∙_}
 use mathlib.Core.List.{List, [], _∷_, _++_, append-assoc, append-nil}
 use mathlib.Core.Bool.{true, _&&_}
-use mathlib.Core.Option.{Option, none, some}
+use mathlib.Core.Option.{some}
 use mathlib.Core.Logic.{⊎-elim}
 use lib.ListN.{length, getD, drop, drop-of-length-le}
 use types.Run.{OneOf}
@@ -14,13 +14,12 @@ use Rattle.rules.specs.State.{State, empty}
 use Rattle.rules.specs.Sound.{sound}
 use Rattle.rules.specs.Events.{dispatch}
 use Rattle.rules.specs.Lists.{fits, allFit, run}
-use Rattle.rules.specs.EventFile.{Bytes, recordAt, joined, eventsAfter, fileRefusal, eventsOf, event, Stepped, steppedTo, stepped}
+use Rattle.rules.specs.EventFile.{Bytes, eventsAfter, fileRefusal, eventsOf, event, Stepped, stepped}
 use Rattle.rules.specs.Key.{lines}
 use Rattle.rules.proofs.Basics.Views.{and-true-left, and-true-right, and-true-both}
 use Rattle.rules.proofs.Agreement.{offer-sound}
 use Rattle.rules.proofs.Demands.{accepted-sound, empty-sound}
-use Rattle.rules.proofs.Files.Reading.{eventsAfter-drop, record-inside}
-use Rattle.rules.proofs.Files.Stepping.{stepped-at}
+use Rattle.rules.proofs.Files.Stepping.{ahead}
 use Rattle.rules.proofs.Files.Accepting.{accepted}
 use Rattle.rules.proofs.Files.Inverse.{events-fit, events-most}
 use Rattle.event_file.specs.declared.reader.Found.{Found}
@@ -70,41 +69,6 @@ begin file before bytes h room =
       sound = empty-sound;
       room = omega arith;
       few = omega arith;
-    }
-
--- reading yields events only where a record is good and the rest reads
-record Joined (o : Option Event) (l : Option (List Event)) (left : List Event) : Type 0 where
-  next : Event
-  rest : List Event
-  split : left ≡ next ∷ rest
-  here : o ≡ some next
-  later : l ≡ some rest
-
--- at an offset inside the file stands the next event
-pub record Ahead (file : List ℕ) (offset : ℕ) (left : List Event) : Type 0 where
-  pub next : Event
-  pub rest : List Event
-  pub split : left ≡ next ∷ rest
-  pub step : stepped file offset ≡ record { found = event next; refusal = 0; offset = offset + 1 + getD file offset 0 }
-  pub reads : eventsAfter 0 (drop (offset + 1 + getD file offset 0) file) ≡ some rest
-  pub inside : offset + 1 + getD file offset 0 ≤ length file
-
-some-joined : (o : Option Event) (l : Option (List Event)) (left : List Event) → joined o l ≡ some left → Joined o l left
-some-joined none l left e = let z : _≡_ {A = ℕ} 0 1 = cc in absurd (omega arith)
-some-joined (some x) none left e = let z : _≡_ {A = ℕ} 0 1 = cc in absurd (omega arith)
-some-joined (some x) (some es) left e = record { next = x; rest = es; split = cc; here = refl; later = refl }
-
-pub ahead : (file : List ℕ) (offset : ℕ) (left : List Event) → 5 ≤ offset → offset < length file
-    → eventsAfter 0 (drop offset file) ≡ some left → Ahead file offset left
-ahead file offset left low h e =
-    let j = some-joined (recordAt (drop offset file)) (eventsAfter 0 (drop (offset + 1 + getD file offset 0) file)) left (sym (eventsAfter-drop file offset h) ∙ e) in
-    record {
-      next = j .next;
-      rest = j .rest;
-      split = j .split;
-      step = sym (stepped-at file offset low h) ∙ ap (steppedTo offset (offset + 1 + getD file offset 0)) (j .here);
-      reads = j .later;
-      inside = record-inside file offset (j .next) h (j .here);
     }
 
 -- the next event's line has room, and its number is a number of two bytes

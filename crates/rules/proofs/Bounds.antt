@@ -6,8 +6,9 @@ use native.Mathlib.Omega.{arith}
 use mathlib.Core.Path.{_≡_, refl, ap}
 use mathlib.Core.List.{List, [], _∷_, map}
 use mathlib.Core.Bool.{Bool, true, false}
-use lib.ListN.{length, length-map}
+use lib.ListN.{length, replicate, length-map, length-replicate, getD-replicate}
 use lib.Dec.{T, leb, leb→le, lit≤}
+use Rattle.rules.specs.declared.Role.the-variants.{Client}
 use Rattle.rules.specs.declared.Thread.{Thread}
 use Rattle.rules.specs.declared.Chain.{Chain}
 use Rattle.rules.specs.declared.Running.{Running}
@@ -15,7 +16,7 @@ use Rattle.rules.specs.declared.Running.the-variants.{Nothing, Runs}
 use Rattle.rules.specs.declared.Event.{Event}
 use Rattle.rules.specs.declared.Event.the-variants.{Create, Give, Call, Reply, Block, Wake, Charge, Abort}
 use Rattle.rules.specs.Tests.{member, distinct}
-use Rattle.rules.specs.State.{State, Plain, forget, limit, ownerAt, liveAt, oneMoreIf, liveThreads}
+use Rattle.rules.specs.State.{State, Plain, forget, limit, freeThread, ownerAt, liveAt, oneMoreIf, liveThreads}
 use Rattle.rules.specs.Walk.{Link, noLinks}
 use Rattle.rules.specs.Refusals.{_gives_else_, refusal}
 use Rattle.rules.specs.Events.{Answered, dispatchAfter, dispatch, offerIf, offer}
@@ -23,8 +24,9 @@ use Rattle.rules.specs.Sound.{sound}
 use Rattle.rules.specs.Lists.{fits, allFit, run}
 use Rattle.rules.specs.EventFile.{headRefusal, fileRefusalAfter, fileRefusal}
 use Rattle.rules.proofs.Basics.Views.{and-true-left, and-true-right}
-use Rattle.rules.proofs.Basics.Members.{member-here, member-there, distinct-head, distinct-tail, image-of, map-distinct}
-use Rattle.rules.proofs.Tables.Writes.{within}
+use Rattle.rules.proofs.Basics.Members.{member-here, member-there, distinct-head, distinct-tail, distinct-cons, each, image-of}
+use Rattle.rules.proofs.Basics.Members.{map-distinct}
+use Rattle.rules.proofs.Tables.Writes.{starting, within}
 use Rattle.rules.proofs.Links.Counting.{liveThat, liveThat-at-most, liveThat-more}
 use Rattle.rules.proofs.Links.Chains.{To, stop, call, help, walk-ends, walk-links}
 use Rattle.rules.proofs.Soundness.Standings.{links-live}
@@ -124,6 +126,26 @@ listed-live ts (n ∷ ns) d live =
     liveThat-more (λ m. member m ns) (λ m. member m (n ∷ ns)) (λ m h. member-there m n ns h) ts n
     (live n (member-here n n ns refl)) (distinct-head n ns d) (member-here n n ns refl) in
     omega (arith, listed-live ts ns (distinct-tail n ns d) (λ m h. live m (member-there m n ns h)))
+
+-- so different numbers below n, as the numbers of n live threads, are at most n
+pub distinct-below : (n : ℕ) (l : List ℕ) → distinct l ≡ true → ((t : ℕ) → member t l ≡ true → t < n) → length l ≤ n
+distinct-below n l d small =
+    let alive : Thread = starting Client in
+    omega (
+      arith,
+      listed-live (replicate n alive) l d
+          (λ t h. ap (λ (x : Thread). x .live) (getD-replicate n t alive freeThread (small t h))),
+      liveThat-at-most (λ t. member t l) (replicate n alive),
+      live-most (replicate n alive),
+      length-replicate n alive,
+    )
+
+-- and a turn order that lacks a number has room for it
+pub turns-room : (s : State) → Sound s → (t : ℕ) → t < limit → member t (s .order) ≡ false → length (s .order) < limit
+turns-room s x t h unlisted =
+    let turns = x .mid .shape .turns in
+    distinct-below limit (t ∷ s .order) (distinct-cons t (s .order) unlisted (turns .once))
+    (λ u. each (λ m. m < limit) u t (s .order) h (turns .small u))
 
 -- each timeslice has a live owner of its own, so there are no more timeslices than threads
 pub timeslices-most : (s : State) → Sound s → length (s .order) ≤ liveThreads (s .threads)

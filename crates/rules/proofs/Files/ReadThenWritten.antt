@@ -18,7 +18,7 @@ use Rattle.rules.specs.EventFile.{noOperand, oneByte, oneWord, createFro
 use Rattle.rules.specs.EventFile.{joined, eventsAfter, recordsIn}
 use Rattle.rules.proofs.Basics.Views.{Two, yes-true, no-false, two, and-true-both}
 use Rattle.rules.proofs.Basics.Members.{all-cons}
-use Rattle.rules.proofs.Files.Reading.{eventsAfter-cons}
+use Rattle.rules.proofs.Files.Reading.{eventsAfter-cons, some-joined}
 use Rattle.rules.proofs.Files.Accepting.{Headed}
 
 -- where bytes are read as an event, they are its kind and its operands
@@ -142,18 +142,22 @@ unfolding recordAt
 record-fits [] e bs r = let z : _≡_ {A = ℕ} 0 1 = cc in absurd (omega arith)
 record-fits (n ∷ rest) e bs r = record-written n rest e bs r .fitting
 
--- reading yields an event only where a record is good and the rest reads
+-- a list that is read of bytes that are there begins with the event of their first record
 joined-some :
     (o : Option Event) (left : Option (List Event)) (e : Event) (es : List Event) →
     joined o left ≡ some (e ∷ es) → (o ≡ some e) × (left ≡ some es)
-joined-some none left e es j = let z : _≡_ {A = ℕ} 0 1 = cc in absurd (omega arith)
-joined-some (some x) none e es j = let z : _≡_ {A = ℕ} 0 1 = cc in absurd (omega arith)
-joined-some (some x) (some xs) e es j = (cc, cc)
+joined-some o left e es j =
+    let x = some-joined o left (e ∷ es) j in
+    let split = x .split in
+    let here = x .here in
+    let reads = x .reads in
+    (cc, cc)
 
 joined-never-empty : (o : Option Event) (left : Option (List Event)) → joined o left ≡ some [] → ⊥
-joined-never-empty none left j = let z : _≡_ {A = ℕ} 0 1 = cc in omega arith
-joined-never-empty (some x) none j = let z : _≡_ {A = ℕ} 0 1 = cc in omega arith
-joined-never-empty (some x) (some xs) j = let z : _≡_ {A = ℕ} 0 1 = cc in omega arith
+joined-never-empty o left j =
+    let split = some-joined o left [] j .split in
+    let z : _≡_ {A = ℕ} 0 1 = cc in
+    omega arith
 
 -- the records of a byte string are the writer's
 records-written :

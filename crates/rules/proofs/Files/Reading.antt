@@ -89,3 +89,16 @@ eventsAfter-end l at h = rw (drop-of-length-le l h)
 pub isNone-joined : (x : Event) (left : Option (List Event)) → isNone (joined (some x) left) ≡ isNone left
 isNone-joined x none = refl
 isNone-joined x (some es) = refl
+
+-- reading yields events only where a record is good and the rest reads
+pub record Joined (o : Option Event) (later : Option (List Event)) (left : List Event) : Type 0 where
+  pub next : Event
+  pub rest : List Event
+  pub split : left ≡ next ∷ rest
+  pub here : o ≡ some next
+  pub reads : later ≡ some rest
+
+pub some-joined : (o : Option Event) (later : Option (List Event)) (left : List Event) → joined o later ≡ some left → Joined o later left
+some-joined none later left e = let z : _≡_ {A = ℕ} 0 1 = cc in absurd (omega arith)
+some-joined (some x) none left e = let z : _≡_ {A = ℕ} 0 1 = cc in absurd (omega arith)
+some-joined (some x) (some es) left e = record { next = x; rest = es; split = cc; here = refl; reads = refl }

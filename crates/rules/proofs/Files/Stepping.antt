@@ -1,7 +1,7 @@
 -- Opening and stepping: what each answers, by the test of document 01 that decides it.
 use Prim.Native.Nat.{ℕ, zero, suc, _+_, _<_, _≤_}
 use mathlib.Core.Path.{_≡_, refl, ap, sym, _∙_}
-use mathlib.Core.List.{List}
+use mathlib.Core.List.{List, _∷_}
 use mathlib.Core.Bool.{Bool, true, false, cond, _||_}
 use mathlib.Core.Option.{Option, none, some}
 use native.Mathlib.Omega.{arith}
@@ -11,7 +11,8 @@ use borrow.Author.Tests.{eq-eqb, ne-eqb, le-ltb, lt-ltb}
 use Rattle.rules.specs.declared.Event.{Event}
 use Rattle.rules.specs.Refusals.{_gives_else_}
 use Rattle.rules.specs.EventFile.{recordAt, recordsIn, isNone, headRefusal, fileRefusalAfter, fileRefusal, openedAs, opened}
-use Rattle.rules.specs.EventFile.{event, end, bad, Stepped, steppedTo, stepped}
+use Rattle.rules.specs.EventFile.{eventsAfter, event, end, bad, Stepped, steppedTo, stepped}
+use Rattle.rules.proofs.Files.Reading.{eventsAfter-drop, record-inside, some-joined}
 
 -- the head's refusal comes first
 head-first : (n : ℕ) (file : List ℕ) → (n ≡ 0 → ⊥) → n ≡ fileRefusalAfter n file
@@ -103,3 +104,28 @@ pub found-record : (file : List ℕ) (at : ℕ) (e : Event) → stepped file at 
 unfolding stepped
 found-record file at e h =
     picked (ltb at 5 || ltb (length file) at) (eqb at (length file)) at (at + 1 + getD file at 0) (recordAt (drop at file)) e h
+
+-- at an offset inside the file, where events are left, stands the next one
+pub record Ahead (file : List ℕ) (offset : ℕ) (left : List Event) : Type 0 where
+  pub next : Event
+  pub rest : List Event
+  pub split : left ≡ next ∷ rest
+  pub step : stepped file offset ≡ record { found = event next; refusal = 0; offset = offset + 1 + getD file offset 0 }
+  pub reads : eventsAfter 0 (drop (offset + 1 + getD file offset 0) file) ≡ some rest
+  pub inside : offset + 1 + getD file offset 0 ≤ length file
+
+pub ahead :
+    (file : List ℕ) (offset : ℕ) (left : List Event) → 5 ≤ offset → offset < length file →
+    eventsAfter 0 (drop offset file) ≡ some left → Ahead file offset left
+ahead file offset left low h e =
+    let next = offset + 1 + getD file offset 0 in
+    let j =
+    some-joined (recordAt (drop offset file)) (eventsAfter 0 (drop next file)) left (sym (eventsAfter-drop file offset h) ∙ e) in
+    record {
+      next = j .next;
+      rest = j .rest;
+      split = j .split;
+      step = sym (stepped-at file offset low h) ∙ ap (steppedTo offset next) (j .here);
+      reads = j .reads;
+      inside = record-inside file offset (j .next) h (j .here);
+    }
