@@ -1,4 +1,5 @@
--- What is proved about the definitions of specs/. Demands.antt has the theorems; MarkedSequences.antt has K1 to K11.
+-- What is proved about the definitions of specs/. Demands.antt has the theorems about the machines, Files/Inverse.antt those about event
+-- files; MarkedSequences.antt has K1 to K11.
 pub mod Computing
 pub mod MarkedSequences
 pub mod Basics
