@@ -1,79 +1,20 @@
--- Opening and stepping: each answer of the code is the definition's.
-use Prim.Native.Nat.{ℕ, zero, suc, _+_, _<_, _≤_}
-use mathlib.Core.Path.{_≡_, refl, ap, sym, _∙_}
+-- Stepping: the code's answer at a record, as document 01 has it.
+use Prim.Native.Nat.{ℕ, _+_, _<_, _≤_}
+use mathlib.Core.Path.{_≡_, refl, ap, _∙_}
 use mathlib.Core.List.{List}
-use mathlib.Core.Bool.{Bool, true, false, cond, _||_}
 use mathlib.Core.Option.{Option, none, some}
-use native.Mathlib.Omega.{arith}
 use lib.ListN.{length, getD, drop}
-use lib.Dec.{ltb, eqb}
-use borrow.Author.Tests.{eq-eqb, ne-eqb, le-ltb, lt-ltb}
 use Rattle.rules.specs.declared.Event.{Event}
-use Rattle.rules.specs.Refusals.{_gives_else_}
-use Rattle.rules.specs.EventFile.{recordAt, recordsIn, isNone, headRefusal, fileRefusalAfter, fileRefusal, openedAs, opened}
-use Rattle.rules.specs.EventFile.{event, end, bad, steppedTo, stepped}
+use Rattle.rules.specs.EventFile.{recordAt, steppedTo, stepped}
 use Rattle.rules.specs.EventFile as file
+use Rattle.rules.proofs.Files.Stepping.{stepped-at}
 use Rattle.event_file.specs.declared.reader.Stepped.{Stepped}
-use Rattle.event_file.specs.Answers.{foundOf, movedTo, shownFound}
+use Rattle.event_file.specs.Answers.{foundOf, movedTo, shownFound, refusalOf}
 use Rattle.event_file.proofs.Reading.{stepAt}
-
--- the head's refusal comes first
-head-first : (n : ℕ) (file : List ℕ) → (n ≡ 0 → ⊥) → n ≡ fileRefusalAfter n file
-head-first zero file h = absurd (h refl)
-head-first (suc n) file h = refl
-
-pub refused-by-head : (file : List ℕ) (n : ℕ) → n ≡ headRefusal file → (n ≡ 0 → ⊥) → n ≡ fileRefusal file
-unfolding fileRefusal
-refused-by-head file n e h = head-first n file h ∙ ap (λ (k : ℕ). fileRefusalAfter k file) e
-
-pub refused-by-records :
-    (file : List ℕ) (n r : ℕ) →
-    n ≡ headRefusal file → n ≡ 0 → r ≡ (isNone (recordsIn file) gives 16 else 0) → r ≡ fileRefusal file
-unfolding fileRefusal
-refused-by-records file n r e h records = records ∙ ap (λ (k : ℕ). fileRefusalAfter k file) (sym h ∙ e)
-
--- what opening answers to a file's refusal
-refused-opens : (n : ℕ) → (n ≡ 0 → ⊥) → record { refusal = n; offset = 0 } ≡ openedAs n
-refused-opens zero h = absurd (h refl)
-refused-opens (suc n) h = refl
-
-pub opened-refused :
-    (file : List ℕ) (n : ℕ) → n ≡ fileRefusal file → (n ≡ 0 → ⊥) → record { refusal = n; offset = 0 } ≡ opened file
-unfolding opened
-opened-refused file n e h = refused-opens n h ∙ ap openedAs e
-
-pub opened-accepted : (file : List ℕ) (n : ℕ) → n ≡ fileRefusal file → n ≡ 0 → record { refusal = 0; offset = 5 } ≡ opened file
-unfolding opened
-opened-accepted file n e h = ap openedAs (sym h ∙ e)
-
--- a step outside the records: below 5, past the end, at the end
-pub stepped-low : (file : List ℕ) (at : ℕ) → at < 5 → record { found = bad; offset = at } ≡ stepped file at
-unfolding stepped
-stepped-low file at h = simp (lt-ltb _ _ h)
-
-pub stepped-past : (file : List ℕ) (at : ℕ) → 5 ≤ at → length file < at → record { found = bad; offset = at } ≡ stepped file at
-unfolding stepped
-stepped-past file at low h = simp (le-ltb _ _ low, lt-ltb _ _ h)
-
-pub stepped-end : (file : List ℕ) (at : ℕ) → 5 ≤ at → at ≡ length file → record { found = end; offset = at } ≡ stepped file at
-unfolding stepped
-stepped-end file at low e =
-    let h : at ≤ length file = omega arith in
-    simp (le-ltb _ _ low, le-ltb _ _ h, eq-eqb _ _ e)
-
--- a step at a record
-pub stepped-at :
-    (file : List ℕ) (at : ℕ) → 5 ≤ at → at < length file →
-    steppedTo at (at + 1 + getD file at 0) (recordAt (drop at file)) ≡ stepped file at
-unfolding stepped
-stepped-at file at low h =
-    let within : at ≤ length file = omega arith in
-    let inside : at ≡ length file → ⊥ = omega arith in
-    simp (le-ltb _ _ low, le-ltb _ _ within, ne-eqb _ _ inside)
 
 -- the answer of the code, as document 01 has it
 abbrev pub shown : Stepped → file.Stepped
-shown r = record { found = shownFound (r .found); offset = r .offset }
+shown r = record { found = shownFound (r .found); refusal = refusalOf (r .found); offset = r .offset }
 
 shown-moved : (o : Option Event) (at next : ℕ) → shown (movedTo (foundOf o) at next) ≡ steppedTo at next o
 shown-moved none at next = refl
@@ -83,18 +24,3 @@ pub stepped-record :
     (file : List ℕ) (at : ℕ) (r : Stepped) → 5 ≤ at → at < length file → r ≡ stepAt file at → shown r ≡ stepped file at
 stepped-record file at r low h e =
     ap shown e ∙ shown-moved (recordAt (drop at file)) at (at + 1 + getD file at 0) ∙ stepped-at file at low h
-
--- a step finds an event only where a good record begins
-picked :
-    (outside ended : Bool) (o : Option Event) (at next : ℕ) (e : Event) →
-    cond outside (record { found = bad; offset = at }) (cond ended (record { found = end; offset = at }) (steppedTo at next o)) .found ≡ event e →
-    o ≡ some e
-picked true ended o at next e h = let z : _≡_ {A = ℕ} 0 1 = cc in absurd (omega arith)
-picked false true o at next e h = let z : _≡_ {A = ℕ} 0 1 = cc in absurd (omega arith)
-picked false false none at next e h = let z : _≡_ {A = ℕ} 0 1 = cc in absurd (omega arith)
-picked false false (some x) at next e h = cc
-
-pub found-record : (file : List ℕ) (at : ℕ) (e : Event) → stepped file at .found ≡ event e → recordAt (drop at file) ≡ some e
-unfolding stepped
-found-record file at e h =
-    picked (ltb at 5 || ltb (length file) at) (eqb at (length file)) (recordAt (drop at file)) at (at + 1 + getD file at 0) e h

@@ -62,12 +62,17 @@ module _ {M : Type 1} (𝓤 : URA M) (H : Heap 𝓤) (A : Atoms 𝓤) (W : Given
   abbrev vh : Values (D κ .parts)
   vh = (h .file, (h .offset, tt))
 
-  pub file-out : ent 𝓤 (sem 𝓤 H A (Owned κ h)) (sep 𝓤 (sem 𝓤 H A (ShrSlice (named 0) κ u8 .own (h .file) (fileVal h ∷ []))) (sem 𝓤 H A (Owned κ h)))
+  pub file-out : ent 𝓤 (sem 𝓤 H A (Owned κ h))
+      (sep 𝓤 (sem 𝓤 H A (ShrSlice (named 0) κ u8 .own (h .file) (fileVal h ∷ []))) (sem 𝓤 H A (Owned κ h)))
   file-out =
       qed W (‵ (Owned κ h) ∷ []) ∵
       use1 W (‵ (Owned κ h) ⊛ ‵ (Owned κ h)) (LL.copy (D κ) (T′.the-copy (α κ)) 𝓤 H A W .twice h (T′.lowered h ∷ [])) $ split ! $
-      use1 W (given (T′.lowered h ∷ [] ≡ T′.lowered h ∷ []) (‵ (all-own (D κ .parts) (L κ) vh))) (own-open 𝓤 H A W (D κ) (L κ) vh (T′.lowered h)) $ learn ! (λ _.
-      use1 W (‵ (ownAt (D κ .parts) (L κ) 0 (h .file)) ⊛ ‵ (rest (D κ .parts) (L κ) 0 vh)) (own-out 𝓤 H A W (D κ .parts) (L κ) 0 vh) $ split ! $ move ! (1 ∷ []) $ drop ! $ frame ! $ done !)
+      use1 W (given (T′.lowered h ∷ [] ≡ T′.lowered h ∷ []) (‵ (all-own (D κ .parts) (L κ) vh)))
+      (own-open 𝓤 H A W (D κ) (L κ) vh (T′.lowered h)) $ learn ! (λ _.
+      use1 W (‵ (ownAt (D κ .parts) (L κ) 0 (h .file)) ⊛ ‵ (rest (D κ .parts) (L κ) 0 vh)) (own-out 𝓤 H A W (D κ .parts) (L κ) 0 vh) $
+      split ! $ move ! (1 ∷ []) $ drop ! $ frame ! $ done !)
 
   pub moved-own : (n : ℕ) → n < 2 ^ 64 → ent 𝓤 (sem 𝓤 H A (Owned κ h)) (sem 𝓤 H A (Owned κ (moved h n)))
-  moved-own n fits = qed W (‵ (Owned κ h) ∷ []) ∵ owned ! usize (Is usize) (uint-makes 𝓤 H A W w64) n _ (refl, fits) $ move ! (1 ∷ 0 ∷ []) $ by ! (own-put 𝓤 H A W (D κ) (L κ) 1 vh n (T′.lowered h))
+  moved-own n fits =
+      qed W (‵ (Owned κ h) ∷ []) ∵ owned ! usize (Is usize) (uint-makes 𝓤 H A W w64) n _ (refl, fits) $ move ! (1 ∷ 0 ∷ []) $
+      by ! (own-put 𝓤 H A W (D κ) (L κ) 1 vh n (T′.lowered h))

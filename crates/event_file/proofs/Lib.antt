@@ -1,13 +1,6 @@
--- Laws of the definitions that the functions' proofs cite, then the theorems, then what the walks over a reader struct share.
+-- What the functions' proofs share: the code's answers as document 01 has them, then what the walks over a reader struct need.
 pub mod Shapes
 pub mod Reading
 pub mod Cursor
-pub mod Accepting
-pub mod Writing
-pub mod WrittenThenRead
-pub mod ReadThenWritten
-pub mod Stepwise
-pub mod Appending
-pub mod Inverse
 pub mod HeldFile
 pub mod Loan

@@ -7,11 +7,17 @@ use Rattle.event_file.specs.declared.reader.Found.{Found}
 use Rattle.event_file.specs.declared.reader.Found.the-variants.{Record, End, Bad}
 use Rattle.event_file.specs.declared.reader.Stepped.{Stepped}
 
--- document 01's answer for each case: an event, the file's end, or the refusal 16
+-- document 01's answer for each case: an event, the file's end, or no good record
 abbrev pub shownFound : Found → file.Found
 shownFound (Record e) = file.event e
 shownFound End = file.end
 shownFound Bad = file.bad
+
+-- document 01's refusal number for each case, 0 for none
+abbrev pub refusalOf : Found → ℕ
+refusalOf (Record e) = 0
+refusalOf End = 0
+refusalOf Bad = 16
 
 -- what the code finds where the definitions read an event, or none
 abbrev pub foundOf : Option Event → Found

@@ -1,3 +1,2 @@
 -- What the code's answers stand for in document 01.
 pub mod Answers
-pub mod Steps

@@ -3,7 +3,7 @@
 // over such a struct, so each is proved by a walk of its MIR, by hand.
 ghost use mathlib.Core.Path.{_≡_};
 ghost use Rattle.rules.specs.EventFile.{opened, stepped};
-ghost use Rattle.event_file.specs.Answers.{shownFound};
+ghost use Rattle.event_file.specs.Answers.{shownFound, refusalOf};
 use crate::reader::Found;
 use crate::reader::Stepped;
 use crate::reader::open;
@@ -36,7 +36,8 @@ pub fn open_reader<'s, 'a>(r: &'s mut Reader<'a>) -> u8
 pub fn next<'s, 'a>(r: &'s mut Reader<'a>) -> Found
     ensures { λ f. ⌜ (shownFound f ≡ stepped (now (now (r .entry) .file)) (now (r .entry) .offset) .found)
         × (now (r .exit) .file ≡ now (r .entry) .file)
-        × (now (r .exit) .offset ≡ stepped (now (now (r .entry) .file)) (now (r .entry) .offset) .offset) ⌝ }
+        × (now (r .exit) .offset ≡ stepped (now (now (r .entry) .file)) (now (r .entry) .offset) .offset)
+        × (refusalOf f ≡ stepped (now (now (r .entry) .file)) (now (r .entry) .offset) .refusal) ⌝ }
 {
     let read = step(r.file, r.offset);
     r.offset = read.offset;
@@ -46,7 +47,8 @@ pub fn next<'s, 'a>(r: &'s mut Reader<'a>) -> Found
 // Opens a file and takes one step. Its caller has a plain slice and needs no walk.
 pub fn first_event(file: &[u8]) -> Stepped
     ensures { λ r. ⌜ (shownFound (r .found) ≡ stepped (now (file .entry)) (opened (now (file .entry)) .offset) .found)
-        × (r .offset ≡ stepped (now (file .entry)) (opened (now (file .entry)) .offset) .offset) ⌝ }
+        × (r .offset ≡ stepped (now (file .entry)) (opened (now (file .entry)) .offset) .offset)
+        × (refusalOf (r .found) ≡ stepped (now (file .entry)) (opened (now (file .entry)) .offset) .refusal) ⌝ }
 {
     let mut r = over(file);
     open_reader(&mut r);

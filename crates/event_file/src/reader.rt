@@ -4,14 +4,14 @@ ghost use Prim.Native.Nat.{_<_, _+_};
 ghost use lib.ListN.{length, getD, drop};
 ghost use Rattle.rules.specs.Refusals.{_gives_else_};
 ghost use Rattle.rules.specs.EventFile.{recordAt, recordsIn, isNone, fileRefusal, opened, stepped};
-ghost use Rattle.event_file.specs.Answers.{foundOf, movedTo, shownFound};
+ghost use Rattle.event_file.specs.Answers.{foundOf, movedTo, shownFound, refusalOf};
 use crate::words::wide;
 use rules::Event;
 
 mod header;
 mod operands;
 
-// What stands at an offset: an event, the file's end, or no good record, which is the refusal 16.
+// What stands at an offset: an event, the file's end, or no good record. Document 01 has a refusal number for each: `refusalOf`.
 pub enum Found {
     Record(Event),
     End,
@@ -106,7 +106,8 @@ pub fn open(file: &[u8]) -> Opened
 // Reads the record at an offset inside the records. The file's end, and what is no good record, keep the offset.
 pub fn step(file: &[u8], at: usize) -> Stepped
     ensures { λ r. ⌜ (shownFound (r .found) ≡ stepped (now (file .entry)) at .found)
-        × (r .offset ≡ stepped (now (file .entry)) at .offset) ⌝ }
+        × (r .offset ≡ stepped (now (file .entry)) at .offset)
+        × (refusalOf (r .found) ≡ stepped (now (file .entry)) at .refusal) ⌝ }
 {
     if at < 5 {
         return Stepped {

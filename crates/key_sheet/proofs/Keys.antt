@@ -7,9 +7,8 @@ use mathlib.Core.List.{List, _++_}
 use lib.ListN.{length, drop}
 use Rattle.rules.specs.State.{empty}
 use Rattle.rules.specs.Lists.{run}
-use Rattle.rules.specs.EventFile.{fileRefusal, eventsOf}
+use Rattle.rules.specs.EventFile.{Bytes, fileRefusal, eventsOf}
 use Rattle.rules.specs.Key.{lines, fileLine, keyAfter, key}
-use Rattle.event_file.proofs.ReadThenWritten.{Bytes}
 use Rattle.text.specs.Put.{Put}
 use Rattle.text.proofs.Puts.{roomy}
 use Rattle.key_sheet.proofs.Room.{key-fits}

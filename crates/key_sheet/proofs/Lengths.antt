@@ -10,6 +10,7 @@ use Rattle.rules.specs.declared.Running.the-variants.{Nothing, Runs}
 use Rattle.rules.specs.Events.{Answered}
 use Rattle.rules.specs.Key.{bytes, decimal, verdictWord, runningColumns, columns, line, lines, fileLine}
 use Rattle.rules.proofs.Basics.Views.{Two, yes-true, no-false, two}
+use Rattle.rules.proofs.Bounds.{RunsNarrow, Narrow, AllNarrow}
 use borrow.Author.Tests.{ltb-true, ltb-false}
 use Rattle.text.proofs.Decimals.{one-digit, last-digit}
 
@@ -38,21 +39,7 @@ four-long = longer 3 1000 (omega arith) three-long
 pub five-long : (n : ℕ) → n < 100000 → length (decimal n) ≤ 5
 five-long = longer 4 10000 (omega arith) four-long
 
--- an answer whose columns are numbers of one byte, and its links of two
-abbrev pub RunsNarrow : Running → Type 0
-RunsNarrow Nothing = Unit {0}
-RunsNarrow (Runs n t count) = (n < 256) × (t < 256) × (count < 256)
-
-pub record Narrow (a : Answered) : Type 0 where
-  pub refusal : a .refusal < 256
-  pub running : RunsNarrow (a .state .running)
-  pub links : a .links < 65536
-
-abbrev pub AllNarrow : List Answered → Type 0
-AllNarrow [] = Unit {0}
-AllNarrow (a ∷ rest) = Narrow a × AllNarrow rest
-
--- the columns of such an answer
+-- the columns of an answer of narrow numbers
 running-length : (r : Running) → RunsNarrow r → length (runningColumns r) ≤ 11
 unfolding bytes
 running-length Nothing h = omega arith

@@ -1,5 +1,4 @@
 pub mod Lengths
-pub mod Sizes
 pub mod Room
 pub mod Printing
 pub mod Keys

@@ -2,27 +2,32 @@
 use Prim.Native.Nat.{ℕ, _+_, _≤_, _<_}
 use native.Mathlib.Omega.{arith}
 use mathlib.Core.Path.{_≡_, refl, sym, ap, _∙_}
-use mathlib.Core.List.{List, [], _++_, append-assoc, append-nil}
-use mathlib.Core.Bool.{true, false}
+use mathlib.Core.List.{List, [], _∷_, _++_, append-assoc, append-nil}
+use types.Run.{OneOf}
+use denote.Enum.Declared.{tagOf}
 use lib.ListN.{length}
 use Rattle.rules.specs.State.{empty}
-use Rattle.rules.specs.Events.{Answered}
+use Rattle.rules.specs.declared.Event.{Event}
+use Rattle.rules.specs.Events.{dispatch}
+use Rattle.rules.specs.Events as events
 use Rattle.rules.specs.Lists.{run}
-use Rattle.rules.specs.EventFile.{fileRefusal, eventsOf, stepped}
+use Rattle.rules.specs.EventFile.{Bytes, fileRefusal, eventsOf, event, stepped}
 use Rattle.rules.specs.Key.{line, lines}
-use Rattle.event_file.proofs.ReadThenWritten.{Bytes}
+use Rattle.event_file.specs.declared.reader.Found.{Found}
+use Rattle.event_file.specs.Answers.{shownFound}
+use Rattle.event_file.proofs.reader.Found.{the-type}
 use Rattle.dispatcher.specs.declared.Machine.{Machine}
-use Rattle.dispatcher.specs.Shown.{emptyMachine}
-use Rattle.replay.specs.declared.Turned.{Turned}
-use Rattle.replay.specs.Turning.{Turns}
-use Rattle.replay.proofs.Replays.{Ahead, begins, answerOf, goes-on, ended}
+use Rattle.dispatcher.specs.declared.Answered.{Answered}
+use Rattle.dispatcher.specs.Shown.{shown, emptyMachine}
+use Rattle.dispatcher.specs.Promise.{Answers}
+use Rattle.replay.proofs.Turns.{Ahead, begins, answerOf, goes-on, ended}
 use Rattle.text.specs.Put.{Put}
 use Rattle.text.proofs.Puts.{put-none, _then_, reading}
 use Rattle.key_sheet.specs.Line.{lineBytes}
 
 -- the buffer was `before`; the next event is read at `offset`, has this number and goes to the machine m; its line goes to `at`
 pub record Going (file before now : List ℕ) (at offset number : ℕ) (m : Machine) : Type 0 where
-  pub answers : List Answered
+  pub answers : List events.Answered
   pub text : List ℕ
   pub put : Put before now 0 at text
   pub whole : text ++ lines number answers ≡ lines 1 (run (eventsOf file) empty)
@@ -41,36 +46,36 @@ begin file before m e bytes h =
       few = omega arith;
     }
 
--- the next event's line is put, and the machine goes on
-pub next : {file before now after : List ℕ} {at to offset number : ℕ} {m : Machine} {r : Turned} → Going file before now at offset number m
-    → Turns (stepped file offset) m r → r .event ≡ true
-    → Put now after at to (lineBytes number (r .answered .refusal) (r .answered .machine .running) (r .answered .links))
-    → Going file before after to (r .offset) (number + 1) (r .answered .machine)
-unfolding lines line lineBytes
-next {number = number} {r = r} g t some-event p =
-    let n = goes-on (g .ahead) t some-event in
-    let printed = line number (answerOf (r .answered)) in
-    record {
-      answers = n .later;
-      text = g .text ++ printed;
-      put = g .put then p;
-      whole =
-          append-assoc (g .text) printed (lines (number + 1) (n .later))
-          ∙ ap (λ (l : List Answered). g .text ++ lines number l) (sym (n .split))
-          ∙ g .whole;
-      ahead = n .ahead;
-      few = omega (arith, g .few, n .further);
-    }
+module _ {file before now : List ℕ} {at offset number : ℕ} {m : Machine} (g : Going file before now at offset number m) where
+  module _ {e : Event} {next : ℕ} {r : Answered} (found : event e ≡ stepped file offset .found) (moved : next ≡ stepped file offset .offset)
+      (given : Answers (dispatch e (shown m)) m r) where
+    -- the next event's line is put, and the machine goes on
+    pub printed : {after : List ℕ} {to : ℕ} → Put now after at to (lineBytes number (r .refusal) (r .machine .running) (r .links))
+        → Going file before after to next (number + 1) (r .machine)
+    unfolding lines line lineBytes
+    printed p =
+        let n = goes-on (g .ahead) found moved given in
+        let text = line number (answerOf r) in
+        record {
+          answers = n .later;
+          text = g .text ++ text;
+          put = g .put then p;
+          whole =
+              append-assoc (g .text) text (lines (number + 1) (n .later))
+              ∙ ap (λ (l : List events.Answered). g .text ++ lines number l) (sym (n .split))
+              ∙ g .whole;
+          ahead = n .ahead;
+          few = omega (arith, g .few, n .further);
+        }
 
--- each turn with an event moves on, within the file
-pub further : {file before now : List ℕ} {at offset number : ℕ} {m : Machine} {r : Turned} → Going file before now at offset number m
-    → Turns (stepped file offset) m r → r .event ≡ true → (offset < r .offset) × (r .offset ≤ length file)
-further g t some-event = let n = goes-on (g .ahead) t some-event in (n .further, n .ahead .inside)
+    -- each event moves on, within the file
+    pub further : (offset < next) × (next ≤ length file)
+    further = let n = goes-on (g .ahead) found moved given in (n .further, n .ahead .inside)
 
--- without an event all is put
-pub done : {file before now : List ℕ} {at offset number : ℕ} {m : Machine} {r : Turned} → Going file before now at offset number m
-    → Turns (stepped file offset) m r → r .event ≡ false → Put before now 0 at (lines 1 (run (eventsOf file) empty))
-unfolding lines
-done {number = number} g t no-event =
-    let nothing-left = ap (λ (l : List Answered). g .text ++ lines number l) (sym (ended (g .ahead) t no-event)) in
-    reading (sym (append-nil (g .text)) ∙ nothing-left ∙ g .whole) (g .put)
+  -- without an event all is put
+  pub done : (f : Found) → OneOf (1 ∷ 2 ∷ []) (tagOf the-type f) → shownFound f ≡ stepped file offset .found
+      → Put before now 0 at (lines 1 (run (eventsOf file) empty))
+  unfolding lines
+  done f other found =
+      let nothing-left = ap (λ (l : List events.Answered). g .text ++ lines number l) (sym (ended (g .ahead) f other found)) in
+      reading (sym (append-nil (g .text)) ∙ nothing-left ∙ g .whole) (g .put)

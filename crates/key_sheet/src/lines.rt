@@ -7,7 +7,8 @@ ghost use Rattle.rules.specs.Key.{lines};
 ghost use Rattle.text.specs.Put.{Put};
 ghost use Rattle.key_sheet.specs.Line.{lineBytes};
 use dispatcher::Machine;
-use replay::turn;
+use event_file::Found;
+use event_file::step;
 use rules::Running;
 use text::put_byte;
 use text::put_columns;
@@ -40,21 +41,16 @@ pub fn put_lines(file: &[u8], out: &mut [u8]) -> usize
     let mut at = 0;
     let mut number: u64 = 1;
     loop {
-        let turned = turn(machine, file, offset);
-        if !turned.event {
+        let read = step(file, offset);
+        let found = read.found;
+        let Found::Record(event) = found else {
             return at;
-        }
-        machine = turned.answered.machine;
+        };
+        let answered = machine.dispatch(event);
+        machine = answered.machine;
         let running = machine.running;
-        at = put_line(
-            out,
-            at,
-            number,
-            turned.answered.refusal,
-            running,
-            turned.answered.links,
-        );
-        offset = turned.offset;
+        at = put_line(out, at, number, answered.refusal, running, answered.links);
+        offset = read.offset;
         number += 1;
     }
 }

@@ -1,1 +1,2 @@
-pub mod Replays
+-- The law of a turn of a file.
+pub mod Turns

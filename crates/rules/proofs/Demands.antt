@@ -11,19 +11,21 @@ use Rattle.rules.specs.Refusals.{refusal}
 use Rattle.rules.specs.Events.{Answered, dispatchAfter, dispatch, offerIf, offer}
 use Rattle.rules.specs.Plain.{PlainAnswered, emptyPlain, plainOffer}
 use Rattle.rules.specs.Lists.{fits, allFit, run, plainRun, Seen, seen, plainSeen, linksOf}
-use Rattle.rules.specs.EventFile.{fileRefusal, eventsOf}
+use Rattle.rules.specs.EventFile.{Bytes, fileRefusal, eventsOf}
 use Rattle.rules.specs.Key.{bytes, columns, shortLines, shortKeyAfter, shortKey, plainLines, plainKeyAfter, plainKey}
 use Rattle.rules.proofs.Computing.{computing}
 use Rattle.rules.proofs.Basics.Views.{and-true-left, and-true-right}
 use Rattle.rules.proofs.Soundness.Places.{sound-of, of-sound}
 use Rattle.rules.proofs.Agreement.{Agrees, agrees}
+use Rattle.rules.proofs.Files.Inverse.{events-fit}
 
 -- DEMAND 1, accepted. From every sound machine every accepted event gives a sound machine.
 pub accepted-sound : (e : Event) (s : State) → fits e ≡ true → sound s ≡ true → sound (offer e s .state) ≡ true
 accepted-sound e s f h = of-sound (offer e s .state) (agrees e s (sound-of s h) f .sound)
 
 -- DEMAND 1, refused. On every machine, sound or not, a refused event gives the machine as it was, and no link is followed.
-refused-after : (k : ℕ) (e : Event) (s : State) → (dispatchAfter k e s .refusal ≡ 0 → ⊥) → (dispatchAfter k e s .state ≡ s) × (dispatchAfter k e s .links ≡ 0)
+refused-after : (k : ℕ) (e : Event) (s : State) → (dispatchAfter k e s .refusal ≡ 0 → ⊥)
+    → (dispatchAfter k e s .state ≡ s) × (dispatchAfter k e s .links ≡ 0)
 refused-after zero e s n = absurd (n refl)
 refused-after (suc k) e s n = (refl, refl)
 
@@ -38,11 +40,13 @@ refused-same e s n = refused-if (sound s) e s n
 
 -- DEMAND 3. For every list of events of all kinds, refused ones included, from every sound machine, after each event the refusal
 -- number, the running thread, the paying timeslice, the donation count and all links are the plain machine's.
-seen-same : (e : Event) (s : State) → Agrees s (offer e s) (plainOffer e (forget s)) → seen (offer e s) ≡ plainSeen (plainOffer e (forget s))
+seen-same : (e : Event) (s : State) → Agrees s (offer e s) (plainOffer e (forget s))
+    → seen (offer e s) ≡ plainSeen (plainOffer e (forget s))
 seen-same e s a =
     λ i. record { refusal = a .refusal i; running = a .plain i .running; links = linksOf (a .plain i .threads) }
 
-pub equal-from : (es : List Event) (s : State) → allFit es ≡ true → sound s ≡ true → map seen (run es s) ≡ map plainSeen (plainRun es (forget s))
+pub equal-from : (es : List Event) (s : State) → allFit es ≡ true → sound s ≡ true
+    → map seen (run es s) ≡ map plainSeen (plainRun es (forget s))
 unfolding run plainRun allFit
 equal-from [] s f h = refl
 equal-from (e ∷ es) s f h =
@@ -76,7 +80,7 @@ within-from (e ∷ es) s f h =
 pub within : (es : List Event) → allFit es ≡ true → WithinLimits es empty emptyPlain
 within es f = within-from es empty f empty-sound
 
--- THE KEY'S COLUMNS. Every column of the key but the last is the plain machine's, for every file whose events fit (as those read from bytes do).
+-- THE KEY'S COLUMNS. Of every string of bytes, accepted or refused, every column of the key but the last is the plain machine's.
 seenLines : ℕ → List Seen → List ℕ
 seenLines number [] = []
 seenLines number (a ∷ rest) = columns number (a .refusal) (a .running) ++ bytes "\n" ++ seenLines (number + 1) rest
@@ -91,13 +95,13 @@ unfolding plainLines seenLines
 plain-lines number [] = refl
 plain-lines number (a ∷ rest) = rw (plain-lines (number + 1) rest)
 
-columns-after : (k : ℕ) (file : List ℕ) → allFit (eventsOf file) ≡ true → shortKeyAfter k file ≡ plainKeyAfter k file
-columns-after zero file f =
+columns-after : (k : ℕ) (file : List ℕ) → Bytes file → shortKeyAfter k file ≡ plainKeyAfter k file
+columns-after zero file bytes =
     short-lines 1 (run (eventsOf file) empty)
-    ∙ ap (seenLines 1) (equal (eventsOf file) f)
+    ∙ ap (seenLines 1) (equal (eventsOf file) (events-fit file bytes))
     ∙ sym (plain-lines 1 (plainRun (eventsOf file) emptyPlain))
-columns-after (suc k) file f = refl
+columns-after (suc k) file bytes = refl
 
-pub columns-plain : (file : List ℕ) → allFit (eventsOf file) ≡ true → shortKey file ≡ plainKey file
+pub columns-plain : (file : List ℕ) → Bytes file → shortKey file ≡ plainKey file
 unfolding shortKey plainKey
-columns-plain file f = columns-after (fileRefusal file) file f
+columns-plain file bytes = columns-after (fileRefusal file) file bytes

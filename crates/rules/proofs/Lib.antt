@@ -1,7 +1,9 @@
--- What is proved about the definitions of specs/. Demands.antt has the theorems; MarkedSequences.antt has K1 to K11.
+-- What is proved about the definitions of specs/. Demands.antt has the theorems about the machines, Files/Inverse.antt those about event
+-- files; MarkedSequences.antt has K1 to K11.
 pub mod Computing
 pub mod MarkedSequences
 pub mod Basics
+pub mod Files
 pub mod Links
 pub mod Order
 pub mod Soundness
@@ -9,4 +11,5 @@ pub mod Tables
 pub mod Choosing
 pub mod Events
 pub mod Agreement
+pub mod Bounds
 pub mod Demands

@@ -65,7 +65,8 @@ placesOf (x ∷ xs) = x .place ∷ placesOf xs
 unfoldable pub machineAfter : Row → State
 machineAfter r = after (eventsOf (r .file)) empty
 
--- what the definitions make of a row: what the key program prints, what the plain machine answers, the places, and whether the machine is sound
+-- what the definitions make of a row: what the key program prints, what the plain machine answers, the places, and whether the machine
+-- is sound
 pub record Result : Type 0 where
   pub printed : List ℕ
   pub plain : List ℕ
@@ -95,9 +96,9 @@ All P (r ∷ rs) = P r × All P rs
 abbrev at : ℕ → Place → Stands
 at t p = record { timeslice = t; place = p }
 
-infix 70 _/_
-abbrev _/_ : String → String → Line
-c / l = record { columns = c; links = l }
+infix 70 _with-links_
+abbrev _with-links_ : String → String → Line
+c with-links l = record { columns = c; links = l }
 
 unfoldable pub K1 : Row
 K1 =
@@ -107,8 +108,9 @@ K1 =
           ∷ 0x00 ∷ 0x64 ∷ 0x02 ∷ 0x03 ∷ 0x01 ∷ 0x03 ∷ 0x07 ∷ 0x00 ∷ 0x1E ∷ 0x01 ∷ 0x04 ∷ 0x01 ∷ 0x04 ∷ [];
       prints =
           lines
-          ("1 ok 0 - - 0" / "0" ∷ "2 ok 0 - - 0" / "0" ∷ "3 ok 0 0 5 0" / "0" ∷ "4 ok 0 1 5 1" / "0" ∷ "5 ok 0 1 5 1" / "0"
-          ∷ "6 ok 0 0 5 0" / "0" ∷ "7 no 8 0 5 0" / "0" ∷ []);
+          ("1 ok 0 - - 0" with-links "0" ∷ "2 ok 0 - - 0" with-links "0" ∷ "3 ok 0 0 5 0" with-links "0"
+          ∷ "4 ok 0 1 5 1" with-links "0" ∷ "5 ok 0 1 5 1" with-links "0"
+          ∷ "6 ok 0 0 5 0" with-links "0" ∷ "7 no 8 0 5 0" with-links "0" ∷ []);
       places = at 5 Queue ∷ [];
     }
 
@@ -119,8 +121,9 @@ two =
 
 unfoldable pub twoPrints : List Line
 twoPrints =
-    "1 ok 0 - - 0" / "0" ∷ "2 ok 0 - - 0" / "0" ∷ "3 ok 0 - - 0" / "0" ∷ "4 ok 0 0 0 0" / "0" ∷ "5 ok 0 1 0 1" / "0"
-    ∷ "6 ok 0 2 2 0" / "0" ∷ "7 ok 0 1 2 0" / "1" ∷ []
+    "1 ok 0 - - 0" with-links "0" ∷ "2 ok 0 - - 0" with-links "0" ∷ "3 ok 0 - - 0" with-links "0" ∷ "4 ok 0 0 0 0" with-links "0"
+    ∷ "5 ok 0 1 0 1" with-links "0"
+    ∷ "6 ok 0 2 2 0" with-links "0" ∷ "7 ok 0 1 2 0" with-links "1" ∷ []
 
 unfoldable pub K2 : Row
 K2 = record { file = fileOf two; prints = lines twoPrints; places = at 0 Queue ∷ at 2 Queue ∷ [] }
@@ -129,7 +132,7 @@ unfoldable pub K3 : Row
 K3 =
     record {
       file = fileOf (two ++ (Reply ∷ []));
-      prints = lines (twoPrints ++ ("8 ok 0 1 2 1" / "2" ∷ []));
+      prints = lines (twoPrints ++ ("8 ok 0 1 2 1" with-links "2" ∷ []));
       places = at 0 Queue ∷ at 2 Queue ∷ [];
     }
 
@@ -137,7 +140,7 @@ unfoldable pub four : List Event
 four = two ++ (Reply ∷ Block ∷ Call 1 ∷ [])
 
 unfoldable pub fourPrints : List Line
-fourPrints = twoPrints ++ ("8 ok 0 1 2 1" / "2" ∷ "9 ok 0 0 0 0" / "1" ∷ "10 ok 0 - - 0" / "1" ∷ [])
+fourPrints = twoPrints ++ ("8 ok 0 1 2 1" with-links "2" ∷ "9 ok 0 0 0 0" with-links "1" ∷ "10 ok 0 - - 0" with-links "1" ∷ [])
 
 unfoldable pub K4 : Row
 K4 = record { file = fileOf four; prints = lines fourPrints; places = at 0 (On 1) ∷ at 2 (On 1) ∷ [] }
@@ -146,7 +149,7 @@ unfoldable pub K5 : Row
 K5 =
     record {
       file = fileOf (four ++ (Wake 1 ∷ []));
-      prints = lines (fourPrints ++ ("11 ok 0 1 2 1" / "1" ∷ []));
+      prints = lines (fourPrints ++ ("11 ok 0 1 2 1" with-links "1" ∷ []));
       places = at 0 (Behind 2) ∷ at 2 Queue ∷ [];
     }
 
@@ -154,7 +157,8 @@ unfoldable pub K6 : Row
 K6 =
     record {
       file = fileOf (four ++ (Wake 1 ∷ Abort 2 ∷ Block ∷ []));
-      prints = lines (fourPrints ++ ("11 ok 0 1 2 1" / "1" ∷ "12 ok 0 2 2 0" / "1" ∷ "13 ok 0 1 0 0" / "1" ∷ []));
+      prints = lines (fourPrints ++ ("11 ok 0 1 2 1" with-links "1" ∷ "12 ok 0 2 2 0" with-links "1"
+          ∷ "13 ok 0 1 0 0" with-links "1" ∷ []));
       places = at 0 Queue ∷ at 2 (On 2) ∷ [];
     }
 
@@ -163,8 +167,9 @@ seven = Create 0 Client ∷ Create 1 Server ∷ Create 2 Server ∷ Give 0 0 10 
 
 unfoldable pub sevenPrints : List Line
 sevenPrints =
-    "1 ok 0 - - 0" / "0" ∷ "2 ok 0 - - 0" / "0" ∷ "3 ok 0 - - 0" / "0" ∷ "4 ok 0 0 0 0" / "0" ∷ "5 ok 0 1 0 1" / "0"
-    ∷ "6 ok 0 2 0 2" / "0" ∷ "7 ok 0 - - 0" / "3" ∷ []
+    "1 ok 0 - - 0" with-links "0" ∷ "2 ok 0 - - 0" with-links "0" ∷ "3 ok 0 - - 0" with-links "0" ∷ "4 ok 0 0 0 0" with-links "0"
+    ∷ "5 ok 0 1 0 1" with-links "0"
+    ∷ "6 ok 0 2 0 2" with-links "0" ∷ "7 ok 0 - - 0" with-links "3" ∷ []
 
 unfoldable pub K7 : Row
 K7 = record { file = fileOf seven; prints = lines sevenPrints; places = at 0 Stalled ∷ [] }
@@ -173,7 +178,7 @@ unfoldable pub K8 : Row
 K8 =
     record {
       file = fileOf (seven ++ (Abort 2 ∷ []));
-      prints = lines (sevenPrints ++ ("8 ok 0 2 0 2" / "5" ∷ []));
+      prints = lines (sevenPrints ++ ("8 ok 0 2 0 2" with-links "5" ∷ []));
       places = at 0 Queue ∷ [];
     }
 
@@ -183,8 +188,9 @@ K9 =
       file = fileOf (Create 0 Client ∷ Create 1 Client ∷ Give 0 0 10 5 ∷ Give 1 1 10 5 ∷ Charge 6 ∷ Charge 5 ∷ []);
       prints =
           lines
-          ("1 ok 0 - - 0" / "0" ∷ "2 ok 0 - - 0" / "0" ∷ "3 ok 0 0 0 0" / "0" ∷ "4 ok 0 0 0 0" / "0" ∷ "5 no 11 0 0 0" / "0"
-          ∷ "6 ok 0 1 1 0" / "0" ∷ []);
+          ("1 ok 0 - - 0" with-links "0" ∷ "2 ok 0 - - 0" with-links "0" ∷ "3 ok 0 0 0 0" with-links "0"
+          ∷ "4 ok 0 0 0 0" with-links "0" ∷ "5 no 11 0 0 0" with-links "0"
+          ∷ "6 ok 0 1 1 0" with-links "0" ∷ []);
       places = at 0 Queue ∷ at 1 Queue ∷ [];
     }
 
@@ -195,7 +201,7 @@ unfoldable pub K11 : Row
 K11 =
     record {
       file = fileOf (Create 127 Client ∷ Create 128 Client ∷ []);
-      prints = lines ("1 ok 0 - - 0" / "0" ∷ "2 no 2 - - 0" / "0" ∷ []);
+      prints = lines ("1 ok 0 - - 0" with-links "0" ∷ "2 no 2 - - 0" with-links "0" ∷ []);
       places = [];
     }
 
@@ -207,7 +213,8 @@ ownTimeslice =
       file = fileOf (Create 0 Client ∷ Create 1 Server ∷ Give 0 0 10 100 ∷ Give 1 1 30 100 ∷ Call 1 ∷ []);
       prints =
           lines
-          ("1 ok 0 - - 0" / "0" ∷ "2 ok 0 - - 0" / "0" ∷ "3 ok 0 0 0 0" / "0" ∷ "4 ok 0 0 0 0" / "0" ∷ "5 ok 0 1 1 0" / "0" ∷ []);
+          ("1 ok 0 - - 0" with-links "0" ∷ "2 ok 0 - - 0" with-links "0" ∷ "3 ok 0 0 0 0" with-links "0"
+          ∷ "4 ok 0 0 0 0" with-links "0" ∷ "5 ok 0 1 1 0" with-links "0" ∷ []);
       places = at 0 Queue ∷ at 1 Queue ∷ [];
     }
 
@@ -215,5 +222,6 @@ unfoldable pub rows : List Row
 rows = K1 ∷ K2 ∷ K3 ∷ K4 ∷ K5 ∷ K6 ∷ K7 ∷ K8 ∷ K9 ∷ K10 ∷ K11 ∷ ownTimeslice ∷ []
 
 pub marked : All Meets rows
-unfolding computing linesText plainLinesText text plainText stands placesOf machineAfter result expected K1 two twoPrints K2 K3 four fourPrints K4 K5 K6 seven sevenPrints K7 K8 K9 K10 K11 ownTimeslice rows
+unfolding computing linesText plainLinesText text plainText stands placesOf machineAfter result expected K1 two twoPrints K2 K3 four
+    fourPrints K4 K5 K6 seven sevenPrints K7 K8 K9 K10 K11 ownTimeslice rows
 marked = (refl, (refl, (refl, (refl, (refl, (refl, (refl, (refl, (refl, (refl, (refl, (refl, tt))))))))))))

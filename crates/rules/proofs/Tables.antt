@@ -2,4 +2,3 @@
 pub mod Partners
 pub mod Writes
 pub mod Updates
-pub mod Slices

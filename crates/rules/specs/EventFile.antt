@@ -1,5 +1,5 @@
 -- Document 01, "Event file and key" and "Reading a file": the event file, its reader and its writer.
-use Prim.Native.Nat.{ℕ, zero, suc, _+_, _-_, _*_, _/_, _%_}
+use Prim.Native.Nat.{ℕ, zero, suc, _+_, _-_, _*_, _/_, _%_, _<_}
 use mathlib.Core.List.{List, [], _∷_, _++_}
 use mathlib.Core.Bool.{Bool, true, false, cond, not, _||_}
 use mathlib.Core.Option.{Option, none, some}
@@ -11,6 +11,10 @@ use Rattle.rules.specs.declared.Role.the-variants.{Client, Server}
 use Rattle.rules.specs.declared.Event.{Event}
 use Rattle.rules.specs.declared.Event.the-variants.{Create, Give, Call, Reply, Block, Wake, Charge, Abort}
 use Rattle.rules.specs.Refusals.{_gives_else_}
+
+-- what a file is given as: each element is a byte
+abbrev pub Bytes : List ℕ → Type 0
+Bytes l = (i : ℕ) → getD l i 0 < 256
 
 -- "Quantum and charge are big-endian."
 abbrev pub wordOf : ℕ → ℕ → ℕ
@@ -27,16 +31,32 @@ abbrev pub roleByte : Role → ℕ
 roleByte Client = 0
 roleByte Server = 1
 
--- "one length byte counting what follows it, a kind byte, operands"
+-- "Kinds: 1 create; 2 give; 3 call; 4 reply; 5 block; 6 wake; 7 charge; 8 abort"
+abbrev pub kindOf : Event → ℕ
+kindOf (Create n r) = 1
+kindOf (Give t n priority quantum) = 2
+kindOf (Call server) = 3
+kindOf Reply = 4
+kindOf Block = 5
+kindOf (Wake n) = 6
+kindOf (Charge units) = 7
+kindOf (Abort n) = 8
+
+-- "create (thread, role ..); give (timeslice, thread, priority, quantum in 2 bytes); call (server); wake (thread); charge (2 bytes);
+-- abort (thread)"
+abbrev pub operandsOf : Event → List ℕ
+operandsOf (Create n r) = n ∷ roleByte r ∷ []
+operandsOf (Give t n priority quantum) = t ∷ n ∷ priority ∷ highByte quantum ∷ lowByte quantum ∷ []
+operandsOf (Call server) = server ∷ []
+operandsOf Reply = []
+operandsOf Block = []
+operandsOf (Wake n) = n ∷ []
+operandsOf (Charge units) = highByte units ∷ lowByte units ∷ []
+operandsOf (Abort n) = n ∷ []
+
+-- "A record: one length byte counting what follows it, a kind byte, operands."
 abbrev pub recordOf : Event → List ℕ
-recordOf (Create n r) = 3 ∷ 1 ∷ n ∷ roleByte r ∷ []
-recordOf (Give t n priority quantum) = 6 ∷ 2 ∷ t ∷ n ∷ priority ∷ highByte quantum ∷ lowByte quantum ∷ []
-recordOf (Call server) = 2 ∷ 3 ∷ server ∷ []
-recordOf Reply = 1 ∷ 4 ∷ []
-recordOf Block = 1 ∷ 5 ∷ []
-recordOf (Wake n) = 2 ∷ 6 ∷ n ∷ []
-recordOf (Charge units) = 3 ∷ 7 ∷ highByte units ∷ lowByte units ∷ []
-recordOf (Abort n) = 2 ∷ 8 ∷ n ∷ []
+recordOf e = suc (length (operandsOf e)) ∷ kindOf e ∷ operandsOf e
 
 unfoldable pub recordsOf : List Event → List ℕ
 recordsOf [] = []
@@ -83,7 +103,7 @@ giveFrom (a ∷ b ∷ c ∷ d ∷ []) = none
 giveFrom (a ∷ b ∷ c ∷ d ∷ e ∷ []) = some (Give a b c (wordOf d e))
 giveFrom (a ∷ b ∷ c ∷ d ∷ e ∷ f ∷ rest) = none
 
--- "Kinds: 1 create; 2 give; 3 call; 4 reply; 5 block; 6 wake; 7 charge; 8 abort": the operands of that kind, or none where they do not fit it
+-- the kinds, read: the event of that kind with these operands, or none where they do not fit it
 abbrev pub eventOf : ℕ → List ℕ → Option Event
 eventOf kind operands =
     cond (eqb kind 1) (createFrom operands)
@@ -122,7 +142,8 @@ lengthField file = wordOf (wordOf (wordOf (getD file 0 0) (getD file 1 0)) (getD
 -- "14 (fewer than 4 bytes, more than 65,536 bytes, length field 0 or not the bytes that follow it), 15 (version not 1)"
 abbrev pub headRefusal : List ℕ → ℕ
 headRefusal file =
-    ltb (length file) 4 || ltb 65536 (length file) || eqb (lengthField file) 0 || not (eqb (lengthField file + 4) (length file)) gives 14 else
+    ltb (length file) 4 || ltb 65536 (length file) || eqb (lengthField file) 0 || not (eqb (lengthField file + 4) (length file))
+    gives 14 else
     not (eqb (getD file 4 0) 1) gives 15 else 0
 
 -- the events of a file after its first 5 bytes; none where a record is not good
@@ -161,7 +182,7 @@ openedAs (suc number) = record { refusal = suc number; offset = 0 }
 unfoldable pub opened : List ℕ → Opened
 opened file = openedAs (fileRefusal file)
 
--- what a step finds: an event, the file's end, or the refusal 16
+-- what a step finds: an event, the file's end, or no good record
 pub data Found : Type 0 where
   event : Event → Found
   end : Found
@@ -169,18 +190,20 @@ pub data Found : Type 0 where
 
 pub record Stepped : Type 0 where
   pub found : Found
+  pub refusal : ℕ
   pub offset : ℕ
 
 -- "A step that reads a record moves the offset to the byte after it." The others keep the offset.
 abbrev pub steppedTo : ℕ → ℕ → Option Event → Stepped
-steppedTo at next none = record { found = bad; offset = at }
-steppedTo at next (some e) = record { found = event e; offset = next }
+steppedTo at next none = record { found = bad; refusal = 16; offset = at }
+steppedTo at next (some e) = record { found = event e; refusal = 0; offset = next }
 
--- "A step first gives 16 at an offset below 5 or past the end; then, at the file's end, it says so; then it gives 16 where no good record begins."
+-- "A step first gives 16 at an offset below 5 or past the end; then, at the file's end, it says so; then it gives 16 where no good
+-- record begins."
 unfoldable pub stepped : List ℕ → ℕ → Stepped
 stepped file at =
-    cond (ltb at 5 || ltb (length file) at) (record { found = bad; offset = at })
-    (cond (eqb at (length file)) (record { found = end; offset = at })
+    cond (ltb at 5 || ltb (length file) at) (record { found = bad; refusal = 16; offset = at })
+    (cond (eqb at (length file)) (record { found = end; refusal = 0; offset = at })
     (steppedTo at (at + 1 + getD file at 0) (recordAt (drop at file))))
 
 -- what writing hands back: the refusal number, the bytes filled, and the whole buffer

@@ -65,7 +65,8 @@ give t n priority quantum s =
     let u = withGiven t n priority quantum s in
     record { state = u; links = 0; chooses = overtakes u (some t) }
 
--- Call, server Idle: "donation ... the server ... running, count + 1, those On the server are released; choice only if a released one stands above the current"
+-- Call, server Idle: "donation ... the server ... running, count + 1, those On the server are released; choice only if a released one
+-- stands above the current"
 unfoldable pub callDonates : ℕ → ℕ → ℕ → ℕ → State → Midway
 callDonates server caller t count s =
     releases server (withRunning (Runs server t (count + 1)) (withThreads (donate caller server (s .threads)) s))

@@ -22,4 +22,5 @@ pub mod Sound
 pub mod Refusals
 -- Event file and key
 pub mod EventFile
+pub mod Steps
 pub mod Key

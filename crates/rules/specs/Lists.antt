@@ -6,11 +6,12 @@ use lib.Dec.{leb}
 use Rattle.rules.specs.declared.Thread.{Thread}
 use Rattle.rules.specs.declared.Running.{Running}
 use Rattle.rules.specs.declared.Event.{Event}
-use Rattle.rules.specs.declared.Event.the-variants.{Create, Give, Call, Reply, Block, Wake, Charge, Abort}
+use Rattle.rules.specs.Tests.{all}
 use Rattle.rules.specs.State.{State, Plain}
 use Rattle.rules.specs.Walk.{Link, linkOf}
 use Rattle.rules.specs.Events.{Answered, offer}
 use Rattle.rules.specs.Plain.{PlainAnswered, plainOffer}
+use Rattle.rules.specs.EventFile.{operandsOf}
 
 -- the answers, each with the machine after its event
 unfoldable pub run : List Event → State → List Answered
@@ -41,22 +42,13 @@ seen a = record { refusal = a .refusal; running = a .state .running; links = lin
 abbrev pub plainSeen : PlainAnswered → Seen
 plainSeen a = record { refusal = a .refusal; running = a .plain .running; links = linksOf (a .plain .threads) }
 
--- "An event holds only what these operands can hold": a byte, or two. An event of the code and an event read from a file always do.
+-- "An event handed to the writer holds only what these operands can hold": a byte each. An event of the code and an event read from
+-- bytes always do.
 abbrev pub byte : ℕ → Bool
 byte n = leb n 255
 
-abbrev pub twoBytes : ℕ → Bool
-twoBytes n = leb n 65535
-
 abbrev pub fits : Event → Bool
-fits (Create n r) = byte n
-fits (Give t n priority quantum) = byte t && byte n && byte priority && twoBytes quantum
-fits (Call server) = byte server
-fits Reply = true
-fits Block = true
-fits (Wake n) = byte n
-fits (Charge units) = twoBytes units
-fits (Abort n) = byte n
+fits e = all byte (operandsOf e)
 
 unfoldable pub allFit : List Event → Bool
 allFit [] = true

@@ -1,4 +1,5 @@
--- Document 01, "What belongs to the machine": "Of two timeslices the higher priority stands above; among equals, the earlier in turn order."
+-- Document 01, "What belongs to the machine": "Of two timeslices the higher priority stands above; among equals, the earlier in turn
+-- order."
 use Prim.Native.Nat.{ℕ}
 use mathlib.Core.List.{List, [], _∷_}
 use mathlib.Core.Bool.{Bool, true, false, cond, _&&_, _||_}

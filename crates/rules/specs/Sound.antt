@@ -74,7 +74,8 @@ linksGood p = below limit (λ n. linkGood (p .threads) n (holdAt (p .threads) n)
 
 -- "Idle holds exactly for servers with service none; clients serve nobody."
 abbrev pub idleGood : Thread → Bool
-idleGood t = agree (isIdle (t .hold)) (isServer (t .role) && isNobody (t .service)) && implies (not (isServer (t .role))) (isNobody (t .service))
+idleGood t =
+    agree (isIdle (t .hold)) (isServer (t .role) && isNobody (t .service)) && implies (not (isServer (t .role))) (isNobody (t .service))
 
 abbrev pub idlesGood : Plain → Bool
 idlesGood p = below limit (λ n. idleGood (threadAt (p .threads) n))

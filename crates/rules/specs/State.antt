@@ -1,4 +1,5 @@
--- Document 01, "What belongs to the machine". `State` is what the rules speak of; how a stored machine shows it is said in crate dispatcher.
+-- Document 01, "What belongs to the machine". `State` is what the rules speak of; how a stored machine shows it is said in crate
+-- dispatcher.
 use Prim.Native.Nat.{ℕ, zero, suc}
 use mathlib.Core.List.{List, [], _∷_}
 use mathlib.Core.Bool.{Bool, true, false}

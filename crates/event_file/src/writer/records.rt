@@ -3,7 +3,7 @@ ghost use mathlib.Core.Path.{_≡_};
 ghost use Prim.Native.Nat.{_≤_, _+_};
 ghost use lib.ListN.{length};
 ghost use lib.Seq.{sets};
-ghost use Rattle.rules.specs.EventFile.{roleByte, recordOf};
+ghost use Rattle.rules.specs.EventFile.{roleByte, operandsOf, recordOf};
 ghost use Rattle.rules.specs.declared.Event;
 use crate::words::high_byte;
 use crate::words::low_byte;
@@ -22,25 +22,33 @@ fn role_byte(role: Role) -> u8
     }
 }
 
-pub fn record_length(event: Event) -> usize
-    ensures { λ r. ⌜ r ≡ length (recordOf event) ⌝ }
-    ensures bounded { λ r. ⌜ r ≤ 7 ⌝ }
+fn operand_count(event: Event) -> usize
+    ensures { λ r. ⌜ r ≡ length (operandsOf event) ⌝ }
+    ensures bounded { λ r. ⌜ r ≤ 5 ⌝ }
 {
     match event {
-        Event::Create { thread: _, role: _ } => 4,
+        Event::Create { thread: _, role: _ } => 2,
         Event::Give {
             timeslice: _,
             thread: _,
             priority: _,
             quantum: _,
-        } => 7,
-        Event::Call { server: _ } => 3,
-        Event::Reply => 2,
-        Event::Block => 2,
-        Event::Wake { thread: _ } => 3,
-        Event::Charge { units: _ } => 4,
-        Event::Abort { thread: _ } => 3,
+        } => 5,
+        Event::Call { server: _ } => 1,
+        Event::Reply => 0,
+        Event::Block => 0,
+        Event::Wake { thread: _ } => 1,
+        Event::Charge { units: _ } => 2,
+        Event::Abort { thread: _ } => 1,
     }
+}
+
+// A length byte, a kind byte, operands.
+pub fn record_length(event: Event) -> usize
+    ensures { λ r. ⌜ r ≡ length (recordOf event) ⌝ }
+    ensures bounded { λ r. ⌜ r ≤ 7 ⌝ }
+{
+    2 + operand_count(event)
 }
 
 fn put_create(buffer: &mut [u8], at: usize, thread: u8, role: Role)

@@ -66,20 +66,27 @@ pub member-tail : (n x : ℕ) (xs : List ℕ) → (x ≡ n → ⊥) → member n
 member-tail n x xs d h = each (λ m. (x ≡ m → ⊥) → member m xs ≡ true) n x xs (λ c. absurd (c refl)) (λ k c. k) h d
 
 -- `all`
-pub all-at : (f : ℕ → Bool) (l : List ℕ) → all f l ≡ true → (n : ℕ) → member n l ≡ true → f n ≡ true
+pub all-head : (f : ℕ → Bool) (x : ℕ) (xs : List ℕ) → all f (x ∷ xs) ≡ true → f x ≡ true
 unfolding all
+all-head f x xs e = and-true-left (f x) (all f xs) e
+
+pub all-tail : (f : ℕ → Bool) (x : ℕ) (xs : List ℕ) → all f (x ∷ xs) ≡ true → all f xs ≡ true
+unfolding all
+all-tail f x xs e = and-true-right (f x) (all f xs) e
+
+pub all-cons : (f : ℕ → Bool) (x : ℕ) (xs : List ℕ) → f x ≡ true → all f xs ≡ true → all f (x ∷ xs) ≡ true
+unfolding all
+all-cons f x xs h t = and-true-both (f x) (all f xs) h t
+
+pub all-at : (f : ℕ → Bool) (l : List ℕ) → all f l ≡ true → (n : ℕ) → member n l ≡ true → f n ≡ true
 all-at f [] e n h = clash (member n []) h (not-listed n)
-all-at f (x ∷ xs) e n h =
-    each (λ m. f m ≡ true) n x xs
-    (and-true-left (f x) (all f xs) e)
-    (all-at f xs (and-true-right (f x) (all f xs) e) n)
-    h
+all-at f (x ∷ xs) e n h = each (λ m. f m ≡ true) n x xs (all-head f x xs e) (all-at f xs (all-tail f x xs e) n) h
 
 pub all-of : (f : ℕ → Bool) (l : List ℕ) → ((n : ℕ) → member n l ≡ true → f n ≡ true) → all f l ≡ true
 unfolding all
 all-of f [] g = refl
 all-of f (x ∷ xs) g =
-    and-true-both (f x) (all f xs) (g x (member-here x x xs refl)) (all-of f xs (λ n h. g n (member-there n x xs h)))
+    all-cons f x xs (g x (member-here x x xs refl)) (all-of f xs (λ n h. g n (member-there n x xs h)))
 
 -- `below`: a number below k + 1 is k or below k
 below-at-by : (f : ℕ → Bool) (k : ℕ) → f k ≡ true → (n : ℕ) → n < suc k → (n < k → f n ≡ true) → Same n k → f n ≡ true

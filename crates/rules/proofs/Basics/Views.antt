@@ -87,3 +87,6 @@ or-false-left false b e = refl
 pub or-false-right : (a b : Bool) → (a || b) ≡ false → b ≡ false
 or-false-right true b e = clash true refl e
 or-false-right false b e = e
+
+pub or-false-both : (a b : Bool) → (a || b) ≡ false → (a ≡ false) × (b ≡ false)
+or-false-both a b e = (or-false-left a b e, or-false-right a b e)

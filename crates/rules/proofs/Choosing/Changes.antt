@@ -24,7 +24,8 @@ use Rattle.rules.proofs.Choosing.Releases.{Releasable, selected, kept, 
 use Rattle.rules.proofs.Choosing.Releases.{Ready as OneReady}
 
 -- the turn order does not care which threads are live, so long as owners are
-pub turns-kept : {ts ts′ : List Thread} {ss : List Slice} {order : List ℕ} → Turns ts ss order → ((m : ℕ) → liveAt ts m ≡ true → liveAt ts′ m ≡ true) → Turns ts′ ss order
+pub turns-kept : {ts ts′ : List Thread} {ss : List Slice} {order : List ℕ} → Turns ts ss order
+    → ((m : ℕ) → liveAt ts m ≡ true → liveAt ts′ m ≡ true) → Turns ts′ ss order
 turns-kept {ss = ss} x live =
     record {
       full = x .full;
@@ -49,7 +50,8 @@ pub avoids : (ts : List Thread) {r k m : ℕ} {c d : Chain} → Ends (linkAt ts)
 avoids ts p n = λ c′ d′ q. n (sym (one-end p q))
 
 -- who waits at m still waits there
-pub waits-kept : {ts ts′ : List Thread} {r x m : ℕ} → Differ (linkAt ts) (linkAt ts′) r → Waits ts x m → holdAt ts′ m ≡ holdAt ts m → Avoids ts r m → Waits ts′ x m
+pub waits-kept : {ts ts′ : List Thread} {r x m : ℕ} → Differ (linkAt ts) (linkAt ts′) r → Waits ts x m → holdAt ts′ m ≡ holdAt ts m
+    → Avoids ts r m → Waits ts′ x m
 waits-kept l (blocked p b) h a = blocked (kept-end l a p) (h ∙ b)
 waits-kept l (idle e i) h a = idle e (h ∙ i)
 
@@ -58,7 +60,8 @@ pub data OnKept (at : Place → Bool) (ts′ : List Thread) (x m : ℕ) : Type 0
   freed : at (On m) ≡ true → OnKept at ts′ x m
   stay : Waits ts′ x m → OnKept at ts′ x m
 
-pub stay-there : {at : Place → Bool} {ts ts′ : List Thread} {r x m : ℕ} → Update ts ts′ r → Waits ts x m → holdAt ts′ m ≡ holdAt ts m → Avoids ts r m → OnKept at ts′ x m
+pub stay-there : {at : Place → Bool} {ts ts′ : List Thread} {r x m : ℕ} → Update ts ts′ r → Waits ts x m → holdAt ts′ m ≡ holdAt ts m
+    → Avoids ts r m → OnKept at ts′ x m
 stay-there u w h a = stay (waits-kept (u .links) w h a)
 
 -- and to the Stalled: they are released, or r ends somewhere
@@ -86,7 +89,8 @@ module _ {at : Place → Bool} {s : State} {ts′ : List Thread} {r : ℕ} (c : 
   on-ready t m e (freed k) = selected (rw e k)
   on-ready t m e (stay w) = kept (rw e w)
 
-  stalled-ready : (t : ℕ) → placeAt (s .places) t ≡ Stalled → Stalls (s .threads) (owner s t) → StalledKept at (s .threads) r → OneReady at (withThreads ts′ s) t
+  stalled-ready : (t : ℕ) → placeAt (s .places) t ≡ Stalled → Stalls (s .threads) (owner s t) → StalledKept at (s .threads) r
+      → OneReady at (withThreads ts′ s) t
   stalled-ready t e w (freed k) = selected (rw e k)
   stalled-ready t e w (stay p) = kept (rw e (kept-loop (c .update .links) p w))
 
@@ -114,7 +118,11 @@ nowhere p = false
 pub change-mid : {s : State} {ts′ : List Thread} {r : ℕ} → Change nowhere s ts′ r → Mid (withThreads ts′ s)
 change-mid {s} {ts′} c =
     let x = change-releasable c in
-    record { shape = x .shape; placed = none-placed nowhere (withThreads ts′ s) x (is-none (s .slices) (λ t. false) (s .order) (λ u h. refl)) }
+    record {
+      shape = x .shape;
+      placed = none-placed nowhere (withThreads ts′ s) x
+          (is-none (s .slices) (λ t. false) (s .order) (λ u h. refl));
+    }
 
 -- what runs does not matter midway
 good-running : (s : State) (n : Running) (t : ℕ) (p : Place) → Good s t p → Good (withRunning n s) t p

@@ -35,7 +35,8 @@ pub data Judges : ℕ → Plain → Plain → Type 0 where
   finds : {p : Plain} (t : ℕ) → topmostRunnable p ≡ some t → verdict (p .threads) (chainOf (p .threads) (p .slices) t) ≡ runs
       → Judges 0 p (plainRunning (Runs (chainOf (p .threads) (p .slices) t .end) t (chainOf (p .threads) (p .slices) t .count)) p)
   tries : {k : ℕ} {p p′ : Plain} (t : ℕ) → topmostRunnable p ≡ some t → verdict (p .threads) (chainOf (p .threads) (p .slices) t) ≡ retries
-      → Judges k (plainThreads (donate (chainOf (p .threads) (p .slices) t .helper) (chainOf (p .threads) (p .slices) t .end) (p .threads)) p) p′
+      → Judges k
+      (plainThreads (donate (chainOf (p .threads) (p .slices) t .helper) (chainOf (p .threads) (p .slices) t .end) (p .threads)) p) p′
       → Judges (suc k) p p′
 
 -- the plain machine finds what the relation says, with rounds enough
@@ -51,7 +52,8 @@ unfolding judge
 judges-is {p = p} j h = judges-from j (liveThreads (p .threads)) h
 
 -- a sound machine is judged as it stands
-chain-runs : {ts : List Thread} {x n count : ℕ} (r : RunsAt ts x n count) → walk ts x ≡ ended n (r .chain) → RunsAt ts x (walk ts x .end) (walk ts x .count)
+chain-runs : {ts : List Thread} {x n count : ℕ} (r : RunsAt ts x n count) → walk ts x ≡ ended n (r .chain)
+    → RunsAt ts x (walk ts x .end) (walk ts x .count)
 chain-runs {ts} {x} r w =
     subst (λ (c : Chain). RunsAt ts x (c .end) (c .count)) (sym w)
     (record { chain = r .chain; ends = r .ends; ready = r .ready; counted = refl })
@@ -109,7 +111,8 @@ parks-now s x links t e p aside good o c =
     let l : walk (s .threads) (owner s t) .links ≤ liveThreads (s .threads) = walk-links (s .threads) (owner s t) in
     let m : liveThreads (s .threads) * (unparkedIn (park t p s) + 1) ≤ liveThreads (s .threads) * unparkedIn s =
     mul-le-mul-left (liveThreads (s .threads)) (omega arith) in
-    let b : o .links ≤ links + walk (s .threads) (owner s t) .links + liveThreads (s .threads) * (unparkedIn (park t p s) + 1) = rw lives at (c .links) in
+    let b : o .links ≤ links + walk (s .threads) (owner s t) .links + liveThreads (s .threads) * (unparkedIn (park t p s) + 1) =
+    rw lives at (c .links) in
     record {
       sound = c .sound;
       retries = c .retries;
@@ -122,7 +125,8 @@ parks-now s x links t e p aside good o c =
 some-unparked : (s : State) (t : ℕ) → topmostAt inQueue s ≡ some t → 0 < unparkedIn s
 some-unparked s t e =
     let top = queue-top s t e in
-    let none-pass = howMany-fewer (λ u. false) (λ u. unparked (placeAt (s .places) u)) (s .order) (λ u h k. clash false k refl) t (top .listed) refl
+    let none-pass = howMany-fewer (λ u. false) (λ u. unparked (placeAt (s .places) u)) (s .order) (λ u h k. clash false k refl) t
+    (top .listed) refl
     (ap unparked (queue-is (placeAt (s .places) t) (top .taken))) in
     omega (arith, none-pass)
 
@@ -173,23 +177,27 @@ retries-now s x links t e n r c f w v k = by next-look
           retries = 1;
           judged =
               tries t (top-runs s x t e (ap lets v′)) v′
-              (subst (λ (d : Chain). Judges 0 (plainThreads (donate (d .helper) (d .end) (s .threads)) (forget s)) (forget (o .state))) (sym f)
+              (subst (λ (d : Chain). Judges 0 (plainThreads (donate (d .helper) (d .end) (s .threads)) (forget s)) (forget (o .state)))
+              (sym f)
               (subst (λ (p : Plain). Judges 0 p (forget (o .state))) plain (z .judged)));
           few = omega (arith, some-link, most);
           links = omega (arith, b, m, most);
         }
 
-    by : Next s x t e n r (retry c s) → Chosen (forget s) (unparkedIn s) links (look again (links + c .links) (retry c s) (topmostAt inQueue (retry c s)))
+    by : Next s x t e n r (retry c s)
+        → Chosen (forget s) (unparkedIn s) links (look again (links + c .links) (retry c s) (topmostAt inQueue (retry c s)))
     by z =
         let live = owner-live (retry c s) (mid .shape) (z .timeslice) (queue-top (retry c s) (z .timeslice) (z .topmost) .listed) in
         let ends = runs-walk (mid .shape .sane) live (z .runs) in
         rw (z .topmost)
-        (from-next (walked again (links + c .links) (retry c s) (z .timeslice) (chainOf (retry c s .threads) (retry c s .slices) (z .timeslice)))
+        (from-next
+        (walked again (links + c .links) (retry c s) (z .timeslice) (chainOf (retry c s .threads) (retry c s .slices) (z .timeslice)))
         (runs-now (retry c s) mid (links + c .links) (z .timeslice) (z .topmost) (z .runs) (ends .0) (ends .1) again))
 
 -- the choice, by what the topmost in Queue says
 choosing-by : (k : ℕ) (s : State) (links : ℕ) → Mid s → unparkedIn s < suc k
-    → ((o : Outcome) → Mid (o .state) → unparkedIn (o .state) < k → Chosen (forget (o .state)) (unparkedIn (o .state)) (o .links) (chooseFrom k o))
+    → ((o : Outcome) → Mid (o .state) → unparkedIn (o .state) < k → Chosen (forget (o .state)) (unparkedIn (o .state)) (o .links)
+    (chooseFrom k o))
     → (t : ℕ) → topmostAt inQueue s ≡ some t → Standing (s .threads) (owner s t)
     → Chosen (forget s) (unparkedIn s) links (walked (λ u. chooseFrom k u) links s t (chainOf (s .threads) (s .slices) t))
 choosing-by k s links x h rest t e (running n count r w v) = done (runs-now s x links t e r w v (λ u. chooseFrom k u))
@@ -210,13 +218,15 @@ choosing-by k s links x h rest t e (stalling never w v) =
     (rest o (park-mid s x t e Stalled refl never) (omega (arith, park-fewer s x t e Stalled refl never))))
 
 -- THE CHOICE
-pub choosing : (k : ℕ) (o : Outcome) → Mid (o .state) → unparkedIn (o .state) < k → Chosen (forget (o .state)) (unparkedIn (o .state)) (o .links) (chooseFrom k o)
+pub choosing : (k : ℕ) (o : Outcome) → Mid (o .state) → unparkedIn (o .state) < k
+    → Chosen (forget (o .state)) (unparkedIn (o .state)) (o .links) (chooseFrom k o)
 unfolding chooseFrom
 choosing zero o x h = absurd (omega arith)
 choosing (suc k) o x h = by (topmostAt inQueue (o .state)) refl (choosing k)
   where
     by : (q : Option ℕ) → topmostAt inQueue (o .state) ≡ q
-        → ((u : Outcome) → Mid (u .state) → unparkedIn (u .state) < k → Chosen (forget (u .state)) (unparkedIn (u .state)) (u .links) (chooseFrom k u))
+        → ((u : Outcome) → Mid (u .state) → unparkedIn (u .state) < k → Chosen (forget (u .state)) (unparkedIn (u .state)) (u .links)
+        (chooseFrom k u))
         → Chosen (forget (o .state)) (unparkedIn (o .state)) (o .links) (look (λ u. chooseFrom k u) (o .links) (o .state) q)
     by none e rest = done (nothing-now (o .state) x (o .links) e)
     by (some t) e rest =
@@ -231,7 +241,8 @@ pub judged-sound : (s : State) → Sound s → judge (forget s) ≡ forget s
 judged-sound s x = by (x .settled)
   where
     by : Settled s → judge (forget s) ≡ forget s
-    by (nothing q e) = judges-is (finds-none (none-runs s (x .mid) e)) (omega arith) ∙ ap (λ (r : Running). plainRunning r (forget s)) (sym q)
+    by (nothing q e) =
+        judges-is (finds-none (none-runs s (x .mid) e)) (omega arith) ∙ ap (λ (r : Running). plainRunning r (forget s)) (sym q)
     by (runs-on t n count q e r) =
         let h = queue-top s t e .listed in
         let w = runs-walk (x .mid .shape .sane) (owner-live s (x .mid .shape) t h) r in

@@ -17,7 +17,8 @@ use Rattle.rules.proofs.Basics.Views.{clash, Same, equal, different, sa
 use Rattle.rules.proofs.Basics.Members.{Listed, here, there, listed, not-listed, member-here, member-there}
 use Rattle.rules.proofs.Order.Orders.{Top}
 use Rattle.rules.proofs.Soundness.Places.{queue-is, Good, Mid}
-use Rattle.rules.proofs.Choosing.Releases.{Ready, selected, kept, Releasable, release-mid, forget-release, Moved, unmoved, chosen, place-after}
+use Rattle.rules.proofs.Choosing.Releases.{Ready, selected, kept, Releasable, release-mid, forget-release, Moved, unmoved, chosen}
+use Rattle.rules.proofs.Choosing.Releases.{place-after}
 use Rattle.rules.proofs.Choosing.Tops.{queue-top}
 
 -- how many members of a list pass a test
@@ -84,7 +85,8 @@ pub unparked-most : (s : State) → unparkedIn s ≤ length (s .order)
 unparked-most s = howMany-most (λ t. unparked (placeAt (s .places) t)) (s .order)
 
 -- the machine between the new place and the release
-module _ (s : State) (x : Mid s) (t : ℕ) (e : topmostAt inQueue s ≡ some t) (p : Place) (aside : unparked p ≡ false) (good : Good s t p) where
+module _ (s : State) (x : Mid s) (t : ℕ) (e : topmostAt inQueue s ≡ some t) (p : Place) (aside : unparked p ≡ false)
+    (good : Good s t p) where
   set-aside : State
   set-aside = withPlaces (set (s .places) t p) s
 
@@ -98,7 +100,8 @@ module _ (s : State) (x : Mid s) (t : ℕ) (e : topmostAt inQueue s ≡ some t) 
   elsewhere u n = getD-set-other (s .places) t u p freePlace n
 
   -- a follower of t is selected, everybody else keeps a good place
-  follower : (u : ℕ) → member u (s .order) ≡ true → (u ≡ t → ⊥) → (r : Place) → placeAt (s .places) u ≡ r → Good s u r → Ready (behind t) set-aside u
+  follower : (u : ℕ) → member u (s .order) ≡ true → (u ≡ t → ⊥) → (r : Place) → placeAt (s .places) u ≡ r → Good s u r
+      → Ready (behind t) set-aside u
   unfolding set-aside
   follower u h n Queue f g = kept (rw (elsewhere u n, f) tt)
   follower u h n (Behind q) f g = by (same q t)
@@ -175,5 +178,6 @@ module _ (s : State) (x : Mid s) (t : ℕ) (e : topmostAt inQueue s ≡ some t) 
   park-fewer =
       let same-order = ap (λ (q : Plain). q .order) park-forget in
       rw same-order
-      (howMany-fewer (λ u. unparked (placeAt (park t p s .places) u)) (λ u. unparked (placeAt (s .places) u)) (s .order) still t (top .listed)
+      (howMany-fewer (λ u. unparked (placeAt (park t p s .places) u)) (λ u. unparked (placeAt (s .places) u)) (s .order) still t
+      (top .listed)
       gone (ap unparked (queue-is (placeAt (s .places) t) (top .taken))))

@@ -13,7 +13,8 @@ use Rattle.rules.specs.Tests.{member, distinct}
 use Rattle.rules.specs.State.{State, forget, limit, freePlace, placeAt, withPlaces}
 use Rattle.rules.specs.Release.{inQueue, topmostAt, releasedPlace, releasedPlaces, releaseTo, release}
 use Rattle.rules.proofs.Basics.Views.{Two, yes-true, no-false, two, clash, is-false, Same, equal, different, same}
-use Rattle.rules.proofs.Basics.Members.{Listed, here, there, listed, not-listed, member-here, member-there, distinct-head, distinct-tail}
+use Rattle.rules.proofs.Basics.Members.{Listed, here, there, listed, not-listed, member-here, member-there, distinct-head}
+use Rattle.rules.proofs.Basics.Members.{distinct-tail}
 use Rattle.rules.proofs.Order.Orders.{Top, top-some, top-none}
 use Rattle.rules.proofs.Soundness.Shapes.{Shape}
 use Rattle.rules.proofs.Soundness.Places.{queue-is, Good, Placed, Mid}
@@ -98,11 +99,13 @@ pub record Releasable (at : Place → Bool) (s : State) : Type 0 where
   pub free : (t : ℕ) → member t (s .order) ≡ false → placeAt (s .places) t ≡ Queue
 
 -- the places that a release leaves, when one joins Queue
-module _ (at : Place → Bool) (s : State) (x : Releasable at s) (q : ℕ) (top : Top (s .slices) (λ t. at (placeAt (s .places) t)) (s .order) q) where
+module _ (at : Place → Bool) (s : State) (x : Releasable at s) (q : ℕ)
+    (top : Top (s .slices) (λ t. at (placeAt (s .places) t)) (s .order) q) where
   after : State
   after = withPlaces (releasedPlaces at q (s .order) (s .places)) s
 
-  moved : (t : ℕ) → member t (s .order) ≡ true → placeAt (releasedPlaces at q (s .order) (s .places)) t ≡ releasedPlace at q t (placeAt (s .places) t)
+  moved : (t : ℕ) → member t (s .order) ≡ true
+      → placeAt (releasedPlaces at q (s .order) (s .places)) t ≡ releasedPlace at q t (placeAt (s .places) t)
   moved t h =
       released-at at q (s .order) (s .places) (x .shape .turns .once) (λ u k. rw (x .full) (x .shape .turns .small u k)) t h
 
@@ -111,11 +114,13 @@ module _ (at : Place → Bool) (s : State) (x : Releasable at s) (q : ℕ) (top 
   joined = moved q (top .listed) ∙ rw (top .taken, eq-eqb q q refl)
 
   -- who was in Queue stays there
-  queued : (t : ℕ) → member t (s .order) ≡ true → placeAt (s .places) t ≡ Queue → placeAt (releasedPlaces at q (s .order) (s .places)) t ≡ Queue
+  queued : (t : ℕ) → member t (s .order) ≡ true → placeAt (s .places) t ≡ Queue
+      → placeAt (releasedPlaces at q (s .order) (s .places)) t ≡ Queue
   queued t h e = moved t h ∙ rw (e, x .queue)
 
   -- the others stand behind the topmost
-  selected-good : (t : ℕ) → member t (s .order) ≡ true → at (placeAt (s .places) t) ≡ true → Same t q → Good after t (releasedPlace at q t (placeAt (s .places) t))
+  selected-good : (t : ℕ) → member t (s .order) ≡ true → at (placeAt (s .places) t) ≡ true → Same t q
+      → Good after t (releasedPlace at q t (placeAt (s .places) t))
   unfolding after
   selected-good t h e (equal z f) = rw (e, f) tt
   selected-good t h e (different n f) = rw (e, f) (record { listed = top .listed; queued = joined; above = top .above t h e n })
@@ -127,7 +132,8 @@ module _ (at : Place → Bool) (s : State) (x : Releasable at s) (q : ℕ) (top 
   kept-good t (On n) g = g
   kept-good t Stalled g = g
 
-  ready-good : (t : ℕ) → member t (s .order) ≡ true → Ready at s t → Two (at (placeAt (s .places) t)) → Good after t (releasedPlace at q t (placeAt (s .places) t))
+  ready-good : (t : ℕ) → member t (s .order) ≡ true → Ready at s t → Two (at (placeAt (s .places) t))
+      → Good after t (releasedPlace at q t (placeAt (s .places) t))
   ready-good t h r (yes-true e) = selected-good t h e (same t q)
   ready-good t h (selected k) (no-false e) = clash (at (placeAt (s .places) t)) k e
   ready-good t h (kept g) (no-false e) = rw e (kept-good t (placeAt (s .places) t) g)

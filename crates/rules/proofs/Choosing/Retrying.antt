@@ -20,7 +20,8 @@ use Rattle.rules.proofs.Basics.Views.{clash, Same, equal, different, sa
 use Rattle.rules.specs.State.{ownerAt}
 use Rattle.rules.specs.Order.{standsAbove}
 use Rattle.rules.proofs.Order.Orders.{Top, top-some, top-none, above-asym}
-use Rattle.rules.proofs.Links.Chains.{linkAt, To, stop, Ends, Last, none as no-link, donates, helps, last, one-call, one-help, Split, via, split}
+use Rattle.rules.proofs.Links.Chains.{linkAt, To, stop, Ends, Last, none as no-link, donates, helps, last, one-call, one-help}
+use Rattle.rules.proofs.Links.Chains.{Split, via, split}
 use Rattle.rules.proofs.Links.Chains.{same as unchanged}
 use Rattle.rules.proofs.Soundness.Shapes.{Sane}
 use Rattle.rules.proofs.Soundness.Standings.{Waits, blocked, idle, RunsAt, RetriesAt, donation-is, helping-is}
@@ -37,7 +38,8 @@ pub record Helper (ts : List Thread) (x n : ℕ) (d : Chain) : Type 0 where
   pub helps : holdAt ts (d .helper) ≡ Helping n
 
 -- nobody is Calling an Idle thread, so the last link is the last helper's
-helper-of : (ts : List Thread) → Sane ts → (x n : ℕ) {d : Chain} → holdAt ts n ≡ Idle → 0 < d .links → Last (linkAt ts) x noLinks n d → Helper ts x n d
+helper-of : (ts : List Thread) → Sane ts → (x n : ℕ) {d : Chain} → holdAt ts n ≡ Idle → 0 < d .links → Last (linkAt ts) x noLinks n d
+    → Helper ts x n d
 helper-of ts x y n i l no-link = absurd (omega arith)
 helper-of ts x y n i l (donates {k = k} p e) = absurd (idle-uncalled ts k n x i (donation-is (holdAt ts k) n e))
 helper-of ts x y n i l (helps {k = k} {d = b} p e) = record { before = b; path = p; helps = helping-is (holdAt ts k) n e }
@@ -158,7 +160,8 @@ module _ (s : State) (x : Mid s) (t : ℕ) (e : topmostAt inQueue s ≡ some t) 
         count = count;
         topmost = f;
         runs =
-            subst (λ (p : Plain). RunsAt (p .threads) (ownerAt (p .slices) q) n count) (sym (forget-release (onThread n) (withThreads ts′ s))) w;
+            subst (λ (p : Plain). RunsAt (p .threads) (ownerAt (p .slices) q) n count)
+            (sym (forget-release (onThread n) (withThreads ts′ s))) w;
       }
 
   top : Top (s .slices) (λ u. inQueue (placeAt (s .places) u)) (s .order) t
@@ -172,13 +175,17 @@ module _ (s : State) (x : Mid s) (t : ℕ) (e : topmostAt inQueue s ≡ some t) 
       after = release (onThread n) (withThreads ts′ s)
 
       t-queued : inQueue (placeAt (after .places) t) ≡ true
-      t-queued = is-queued (queue-kept (onThread n) (withThreads ts′ s) releasable t (top .listed) (queue-is (placeAt (s .places) t) (top .taken)))
+      t-queued =
+          is-queued (queue-kept (onThread n) (withThreads ts′ s) releasable t (top .listed) (queue-is (placeAt (s .places) t) (top .taken)))
 
       found : (q : ℕ) → topmostAt inQueue after ≡ some q → Top (s .slices) (λ u. inQueue (placeAt (after .places) u)) (s .order) q
-      found q f = top-some (s .slices) (λ u. inQueue (placeAt (after .places) u)) (s .order) q (sym (topmost-release (onThread n) (withThreads ts′ s)) ∙ f)
+      found q f =
+          top-some (s .slices) (λ u. inQueue (placeAt (after .places) u)) (s .order) q
+          (sym (topmost-release (onThread n) (withThreads ts′ s)) ∙ f)
 
       one : (q : ℕ) → topmostAt inQueue after ≡ some q → Same q t → Queued (onThread n) (withThreads ts′ s) q → Next after
-      one q f (equal z _) w = next-of q (arrived .chain .count) f (subst (λ (k : ℕ). RunsAt ts′ (owner s k) n (arrived .chain .count)) (sym z) own-runs)
+      one q f (equal z _) w =
+          next-of q (arrived .chain .count) f (subst (λ (k : ℕ). RunsAt ts′ (owner s k) n (arrived .chain .count)) (sym z) own-runs)
       one q f (different o _) (joined-now j) = next-of q 0 f (joined-runs q j)
       one q f (different o _) (was w) =
           clash (standsAbove (s .slices) (s .order) t q)
@@ -188,7 +195,8 @@ module _ (s : State) (x : Mid s) (t : ℕ) (e : topmostAt inQueue s ≡ some t) 
       by : (o : Option ℕ) → topmostAt inQueue after ≡ o → Next after
       by none f =
           clash (inQueue (placeAt (after .places) t)) t-queued
-          (top-none (s .slices) (λ u. inQueue (placeAt (after .places) u)) (s .order) (sym (topmost-release (onThread n) (withThreads ts′ s)) ∙ f) t (top .listed))
+          (top-none (s .slices) (λ u. inQueue (placeAt (after .places) u)) (s .order)
+          (sym (topmost-release (onThread n) (withThreads ts′ s)) ∙ f) t (top .listed))
       by (some q) f = one q f (same q t) (queue-after (onThread n) (withThreads ts′ s) releasable q (found q f .listed) (found q f .taken))
 
   pub retry-live : liveThreads (donate (r .chain .helper) n (s .threads)) ≡ liveThreads (s .threads)

@@ -28,7 +28,8 @@ pub is-queued : {p : Place} → p ≡ Queue → inQueue p ≡ true
 is-queued e = ap inQueue e
 
 -- a timeslice put aside may not run
-waits-idle : (s : State) → Mid s → (u n : ℕ) → member u (s .order) ≡ true → Waits (s .threads) (owner s u) n → mayRun (s .threads) (s .slices) u ≡ false
+waits-idle : (s : State) → Mid s → (u n : ℕ) → member u (s .order) ≡ true → Waits (s .threads) (owner s u) n
+    → mayRun (s .threads) (s .slices) u ≡ false
 waits-idle s x u n h w = ap lets (waits-walk (x .shape .sane) (owner-live s (x .shape) u h) w .0)
 
 stalls-idle : (s : State) (u : ℕ) → Stalls (s .threads) (owner s u) → mayRun (s .threads) (s .slices) u ≡ false
@@ -36,7 +37,8 @@ stalls-idle s u never = ap lets (stalls-walk (s .threads) (owner s u) never)
 
 -- who may run is not above the topmost in Queue
 below-top : (s : State) → Mid s → (t : ℕ) → Top (s .slices) (λ v. inQueue (placeAt (s .places) v)) (s .order) t
-    → (u : ℕ) → member u (s .order) ≡ true → mayRun (s .threads) (s .slices) u ≡ true → (u ≡ t → ⊥) → (p : Place) → placeAt (s .places) u ≡ p → Good s u p
+    → (u : ℕ) → member u (s .order) ≡ true → mayRun (s .threads) (s .slices) u ≡ true → (u ≡ t → ⊥) → (p : Place)
+    → placeAt (s .places) u ≡ p → Good s u p
     → standsAbove (s .slices) (s .order) t u ≡ true
 below-top s x t top u h m n Queue e g = top .above u h (is-queued e) n
 below-top s x t top u h m n (Behind q) e g = by (same q t)
@@ -62,7 +64,8 @@ top-runs s x t e m =
 
 -- and if Queue is empty, none may run
 idle-place : (s : State) → Mid s → ((u : ℕ) → member u (s .order) ≡ true → inQueue (placeAt (s .places) u) ≡ false)
-    → (u : ℕ) → member u (s .order) ≡ true → (p : Place) → placeAt (s .places) u ≡ p → Good s u p → mayRun (s .threads) (s .slices) u ≡ false
+    → (u : ℕ) → member u (s .order) ≡ true → (p : Place) → placeAt (s .places) u ≡ p → Good s u p
+    → mayRun (s .threads) (s .slices) u ≡ false
 idle-place s x empty u h Queue e g = clash (inQueue (placeAt (s .places) u)) (is-queued e) (empty u h)
 idle-place s x empty u h (Behind q) e g = clash (inQueue (placeAt (s .places) q)) (is-queued (g .queued)) (empty q (g .listed))
 idle-place s x empty u h (On n) e g = waits-idle s x u n h g

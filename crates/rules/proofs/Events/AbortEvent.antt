@@ -25,7 +25,8 @@ use Rattle.rules.proofs.Soundness.Shapes.{Sane}
 use Rattle.rules.proofs.Tables.Updates.{HoldUpdate, abort-update, abort-help-update}
 use Rattle.rules.proofs.Soundness.Places.{Mid, Sound}
 use Rattle.rules.proofs.Choosing.Releases.{release-mid, forget-release}
-use Rattle.rules.proofs.Choosing.Changes.{Change, nowhere, change-releasable, change-mid, OnKept, freed, stay, stay-there, Avoids, avoids}
+use Rattle.rules.proofs.Choosing.Changes.{Change, nowhere, change-releasable, change-mid, OnKept, freed, stay, stay-there, Avoids}
+use Rattle.rules.proofs.Choosing.Changes.{avoids}
 use Rattle.rules.proofs.Events.Hands.{Handed, same-limit}
 use Rattle.rules.proofs.Basics.Accepting.{passes}
 
@@ -97,11 +98,13 @@ module _ (s : State) (x : Sound s) (n : ℕ) (live : liveAt (s .threads) n ≡ t
         links = λ q. same-limit s links (plainThreads ts′ (forget s)) few (u .update .count) refl;
       }
 
-  released : (m : ℕ) {d : Chain} → Ends (linkAt ts) n noLinks m d → (links : ℕ) → links ≤ liveThreads ts → (b : Bool) → isBlocked (holdAt ts m) ≡ b
+  released : (m : ℕ) {d : Chain} → Ends (linkAt ts) n noLinks m d → (links : ℕ) → links ≤ liveThreads ts → (b : Bool)
+      → isBlocked (holdAt ts m) ≡ b
       → Handed s (record { state = releaseEnd b m (withThreads ts′ s); links = links; chooses = true }) (plainThreads ts′ (forget s))
   released m p links few true f =
       hand (release (onThread m) (withThreads ts′ s)) links
-      (release-mid (onThread m) (withThreads ts′ s) (change-releasable (at-blocked m p))) (forget-release (onThread m) (withThreads ts′ s)) few
+      (release-mid (onThread m) (withThreads ts′ s) (change-releasable (at-blocked m p)))
+      (forget-release (onThread m) (withThreads ts′ s)) few
   released m p links few false f = hand (withThreads ts′ s) links (change-mid (at-unblocked m p f)) refl few
 
   abort-after : Handed s (abortAfter n (walk ts n) s) (plainThreads ts′ (forget s))
@@ -117,7 +120,8 @@ module _ (s : State) (x : Sound s) (n : ℕ) (live : liveAt (s .threads) n ≡ t
       by (loops e never) =
           rw e
           (hand (release stalled (withThreads ts′ s)) (liveThreads ts)
-          (release-mid stalled (withThreads ts′ s) (change-releasable (at-loop never))) (forget-release stalled (withThreads ts′ s)) (omega arith))
+          (release-mid stalled (withThreads ts′ s) (change-releasable (at-loop never))) (forget-release stalled (withThreads ts′ s))
+          (omega arith))
 
 pub abort-handed : (s : State) → Sound s → (n : ℕ) → refusal (Abort n) (forget s) ≡ 0 → Handed s (abort n s) (update (Abort n) (forget s))
 unfolding abort

@@ -1,4 +1,5 @@
--- Call. The caller was Ready: nothing waited at it, and no loop passes it. At a donation the chain that ended at the caller goes on to the server.
+-- Call. The caller was Ready: nothing waited at it, and no loop passes it. At a donation the chain that ended at the caller goes on to
+-- the server.
 use Prim.Native.Nat.{ℕ, _+_}
 use mathlib.Core.Path.{_≡_, refl, ap}
 use mathlib.Core.List.{List}
@@ -26,16 +27,19 @@ use Rattle.rules.proofs.Links.Frames.{kept-up-to}
 use Rattle.rules.proofs.Soundness.Standings.{Target, Waits}
 use Rattle.rules.proofs.Tables.Updates.{HoldUpdate, hold-update, PairUpdate, donate-update, ready-free, helping-free}
 use Rattle.rules.proofs.Soundness.Places.{Settled, runs-on, Sound}
-use Rattle.rules.proofs.Choosing.Changes.{Change, change-releasable, change-mid, ready-change, releasable-running, OnKept, freed, stay, stay-there, avoids, ends-here, not-ready}
+use Rattle.rules.proofs.Choosing.Changes.{Change, change-releasable, change-mid, ready-change, releasable-running, OnKept, freed}
+use Rattle.rules.proofs.Choosing.Changes.{stay, stay-there, avoids, ends-here, not-ready}
 use Rattle.rules.proofs.Events.Hands.{Handed, same-limit, Active, active}
 use Rattle.rules.proofs.Basics.Accepting.{passes}
 use Rattle.rules.proofs.Events.Joining.{releases-handed}
 
-module _ (s : State) (x : Sound s) (caller t count : ℕ) (a : Active s caller t count) (server : ℕ) (to : Target (s .threads) caller server) where
+module _ (s : State) (x : Sound s) (caller t count : ℕ) (a : Active s caller t count) (server : ℕ)
+    (to : Target (s .threads) caller server) where
   -- the server is busy: the caller helps
   helping-update : HoldUpdate (s .threads) (setHold caller (Helping server) (s .threads)) caller (Helping server)
   helping-update =
-      hold-update (s .threads) caller (Helping server) (x .mid .shape .sane) (a .live) (rw (a .runs .ready) ready-free) (helping-free server)
+      hold-update (s .threads) caller (Helping server) (x .mid .shape .sane) (a .live) (rw (a .runs .ready) ready-free)
+      (helping-free server)
       (λ k q. let z : server ≡ k = cc in rw (← z) to)
 
   helps : Handed s (callHelps server caller s) (plainHelps server caller (forget s))
@@ -79,7 +83,8 @@ module _ (s : State) (x : Sound s) (caller t count : ℕ) (a : Active s caller t
           chain = donated (a .runs .chain);
           ends =
               record {
-                path = one-call (kept-up-to (pair .update .links) (ap linkOf (a .runs .ready)) (a .runs .ends .path)) (ap linkOf (pair .at-caller));
+                path = one-call (kept-up-to (pair .update .links) (ap linkOf (a .runs .ready)) (a .runs .ends .path))
+                    (ap linkOf (pair .at-caller));
                 last = ap linkOf (pair .at-server);
               };
           ready = pair .at-server;
@@ -92,7 +97,8 @@ module _ (s : State) (x : Sound s) (caller t count : ℕ) (a : Active s caller t
         releases-handed s server (withRunning (Runs server t (count + 1)) (withThreads ts′ s))
         (releasable-running (Runs server t (count + 1)) (change-releasable change)) settled (pair .update .count) refl
 
-  call-at : (h : Hold) → holdAt (s .threads) server ≡ h → Handed s (callAt server caller t count s h) (plainCallAt server caller t count (forget s) h)
+  call-at : (h : Hold) → holdAt (s .threads) server ≡ h
+      → Handed s (callAt server caller t count s h) (plainCallAt server caller t count (forget s) h)
   call-at Ready e = helps
   call-at Idle e = donates e
   call-at Blocked e = helps
@@ -108,7 +114,8 @@ call-by s x server (Runs caller t count) e f live serves other =
     (record { live = live; server = serves; other = eqb-false server caller other })
     (holdAt (s .threads) server) refl
 
-pub call-handed : (s : State) → Sound s → (server : ℕ) → refusal (Call server) (forget s) ≡ 0 → Handed s (call server s) (update (Call server) (forget s))
+pub call-handed : (s : State) → Sound s → (server : ℕ) → refusal (Call server) (forget s) ≡ 0
+    → Handed s (call server s) (update (Call server) (forget s))
 unfolding call
 call-handed s x server e =
     let a = passes (nothingRuns (s .running)) 4 _ e in

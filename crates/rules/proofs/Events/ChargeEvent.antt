@@ -29,7 +29,7 @@ use Rattle.rules.proofs.Order.Orders.{is-top, above-same, above-back, m
 use Rattle.rules.proofs.Soundness.Places.{queue-is, runs-on, Sound}
 use Rattle.rules.proofs.Choosing.Releases.{release-mid, forget-release}
 use Rattle.rules.proofs.Choosing.Tops.{queue-top}
-use Rattle.rules.proofs.Tables.Slices.{Retimed, freed, stay, retimed-releasable, retimed-mid}
+use Rattle.rules.proofs.Choosing.Slices.{Retimed, freed, stay, retimed-releasable, retimed-mid}
 use Rattle.rules.proofs.Events.Hands.{Handed, same-limit, Active, active}
 
 -- the table where k is left of timeslice t, read at a number

@@ -9,7 +9,7 @@ use native.Mathlib.Nat.{mul-le-mul-left}
 use lib.ListN.{length, length-set, set}
 use lib.Seq.{getD-set-same, getD-set-other, set-getD}
 use lib.Dec.{eqb}
-use borrow.Author.Tests.{ltb-false, leb-true, le-leb, eqb-false, not-false}
+use borrow.Author.Tests.{ltb-false, le-leb, eqb-false, not-false}
 use Rattle.rules.specs.declared.Place.{Place}
 use Rattle.rules.specs.declared.Place.the-variants.{Queue}
 use Rattle.rules.specs.declared.Running.{Running}
@@ -22,15 +22,16 @@ use Rattle.rules.specs.Timeslices.{given, last}
 use Rattle.rules.specs.Sound.{inRange}
 use Rattle.rules.specs.Refusals.{refusal, aboveLimit, ownsOne}
 use Rattle.rules.specs.Events.{aboveRunning, overtakes, withGiven, give}
-use Rattle.rules.specs.Lists.{fits, byte, twoBytes}
+use Rattle.rules.specs.Lists.{fits}
 use Rattle.rules.specs.Plain.{update}
-use Rattle.rules.proofs.Basics.Views.{clash, and4, or-false-left}
+use Rattle.rules.proofs.Basics.Views.{clash, or-false-left}
 use Rattle.rules.proofs.Basics.Members.{some-none}
 use Rattle.rules.proofs.Order.Orders.{above-last, member-last, member-last-other, distinct-last, length-last}
 use Rattle.rules.proofs.Soundness.Standings.{RunsAt}
 use Rattle.rules.proofs.Soundness.Places.{Settled, runs-on, Sound}
 use Rattle.rules.proofs.Basics.Accepting.{passes}
-use Rattle.rules.proofs.Tables.Slices.{Retimed, owner-kept, stay, retimed-mid, retimed-top}
+use Rattle.rules.proofs.Files.Records.{give-fits}
+use Rattle.rules.proofs.Choosing.Slices.{Retimed, owner-kept, stay, retimed-mid, retimed-top}
 use Rattle.rules.proofs.Events.Hands.{Handed, active, linkLimit}
 
 -- the record of a new timeslice: "left = quantum"
@@ -50,7 +51,7 @@ record Fresh (s : State) (t n priority quantum : ℕ) : Type 0 where
 fresh : (s : State) (t n priority quantum : ℕ) → fits (Give t n priority quantum) ≡ true
     → refusal (Give t n priority quantum) (forget s) ≡ 0 → Fresh s t n priority quantum
 fresh s t n priority quantum f e =
-    let ranges = and4 (byte t) (byte n) (byte priority) (twoBytes quantum) f in
+    let ranges = give-fits t n priority quantum f in
     let small = passes (aboveLimit t || aboveLimit n) 1 _ e in
     let unlisted = passes (member t (s .order)) 2 _ (small .1) in
     let live = passes (not (liveAt (s .threads) n)) 3 _ (unlisted .1) in
@@ -63,8 +64,8 @@ fresh s t n priority quantum f e =
       owns-none =
           λ u h. eqb-false (ownerAt (s .slices) u) n
           (some-none (λ t. eqb (ownerAt (s .slices) t) n) (s .order) (owns .0) u h);
-      low = leb-true priority 255 (ranges .2);
-      short = leb-true quantum 65535 (ranges .3);
+      low = ranges .0;
+      short = ranges .1;
       least = omega arith;
     }
 

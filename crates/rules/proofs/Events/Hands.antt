@@ -44,7 +44,8 @@ pub record Accepted (s : State) (o : Outcome) (p : Plain) : Type 0 where
 pub accepts : (s : State) (m : Midway) (p : Plain) → Handed s m p → Accepted s (settle m) p
 accepts s m p h = by (m .chooses) refl
   where
-    chose : m .chooses ≡ true → Chosen (forget (m .state)) (unparkedIn (m .state)) (m .links) (choose (record { state = m .state; links = m .links }))
+    chose : m .chooses ≡ true
+        → Chosen (forget (m .state)) (unparkedIn (m .state)) (m .links) (choose (record { state = m .state; links = m .links }))
         → Accepted s (choose (record { state = m .state; links = m .links })) p
     chose e c =
         let o = choose (record { state = m .state; links = m .links }) in
@@ -76,7 +77,8 @@ pub same-limit : (s : State) (links : ℕ) (p : Plain) → links ≤ liveThreads
 same-limit s links p h e f = rw (e, f) (omega arith)
 
 -- a chain from a live thread comes to live threads
-pub comes-live : {ts : List Thread} → LinksLive ts → {n m : ℕ} {c d : Chain} → liveAt ts n ≡ true → To (linkAt ts) n c m d → liveAt ts m ≡ true
+pub comes-live : {ts : List Thread} → LinksLive ts → {n m : ℕ} {c d : Chain} → liveAt ts n ≡ true → To (linkAt ts) n c m d
+    → liveAt ts m ≡ true
 comes-live l h stop = h
 comes-live l h (call {n = n} {s = s} e p) = comes-live l (l .calls n s e) p
 comes-live l h (help {n = n} {s = s} e p) = comes-live l (l .helps n s e) p

@@ -20,7 +20,8 @@ use Rattle.rules.proofs.Choosing.Tops.{queue-top, top-stays}
 use Rattle.rules.proofs.Events.Hands.{Handed, same-limit}
 
 -- the same runs after a release
-runs-after : (at : Place → Bool) (s : State) (t n count : ℕ) → RunsAt (s .threads) (owner s t) n count → RunsAt (release at s .threads) (owner (release at s) t) n count
+runs-after : (at : Place → Bool) (s : State) (t n count : ℕ) → RunsAt (s .threads) (owner s t) n count
+    → RunsAt (release at s .threads) (owner (release at s) t) n count
 runs-after at s t n count r =
     subst (λ (p : Plain). RunsAt (p .threads) (ownerAt (p .slices) t) n count) (sym (forget-release at s)) r
 
@@ -31,10 +32,12 @@ on-unqueued n (Behind m) k q = clash false k refl
 on-unqueued n (On m) k q = clash false q refl
 on-unqueued n Stalled k q = clash false k refl
 
-settled-after : (n : ℕ) (s : State) → Releasable (onThread n) s → Settled s → overtakes s (topmostAt (onThread n) s) ≡ false → Settled (release (onThread n) s)
+settled-after : (n : ℕ) (s : State) → Releasable (onThread n) s → Settled s → overtakes s (topmostAt (onThread n) s) ≡ false
+    → Settled (release (onThread n) s)
 settled-after n s x settled quiet = by (released (onThread n) s)
   where
-    joined : (q : ℕ) → topmostAt (onThread n) s ≡ some q → aboveRunning s q (s .running) ≡ false → Settled s → Settled (release (onThread n) s)
+    joined : (q : ℕ) → topmostAt (onThread n) s ≡ some q → aboveRunning s q (s .running) ≡ false → Settled s
+        → Settled (release (onThread n) s)
     joined q e k (nothing r f) = clash true refl (rw r at k)
     joined q e k (runs-on t m count r f w) =
         runs-on t m count (ap (λ (p : Plain). p .running) (forget-release (onThread n) s) ∙ r)

@@ -27,7 +27,8 @@ use Rattle.rules.proofs.Links.Frames.{at-once, Donor, donor}
 use Rattle.rules.proofs.Soundness.Standings.{donation-is}
 use Rattle.rules.proofs.Tables.Updates.{orphan-update, PairUpdate, reply-update, ready-serves}
 use Rattle.rules.proofs.Soundness.Places.{owner, Settled, runs-on, Sound}
-use Rattle.rules.proofs.Choosing.Changes.{Change, nowhere, change-mid, mid-running, ready-change, stay, stay-there, avoids, not-ready, not-calling}
+use Rattle.rules.proofs.Choosing.Changes.{Change, nowhere, change-mid, mid-running, ready-change, stay, stay-there, avoids}
+use Rattle.rules.proofs.Choosing.Changes.{not-ready, not-calling}
 use Rattle.rules.proofs.Events.Hands.{Handed, same-limit, Active, active}
 use Rattle.rules.proofs.Basics.Accepting.{passes}
 
@@ -117,7 +118,9 @@ module _ (s : State) (x : Sound s) (server t count : ℕ) (a : Active s server t
           counted = omega (arith, d .counted, r .counted);
         })
 
-    reply-to : Two (ltb 0 count) → Handed s (replyTo t count (withThreads ts′ s) (Serving caller)) (plainReplyTo t count (plainThreads ts′ (forget s)) (Serving caller))
+    reply-to : Two (ltb 0 count)
+        → Handed s (replyTo t count (withThreads ts′ s) (Serving caller))
+        (plainReplyTo t count (plainThreads ts′ (forget s)) (Serving caller))
     reply-to (yes-true e) =
         rw e
         (record {

@@ -6,6 +6,7 @@ use mathlib.Core.Bool.{Bool, true, false, false≢true, _&&_}
 use native.Mathlib.Omega.{arith}
 use Rattle.rules.specs.declared.Thread.{Thread}
 use Rattle.rules.specs.State.{liveAt, liveThreads, oneMoreIf}
+use Rattle.rules.proofs.Basics.Views.{and-true-left}
 
 -- the first test implies the second
 abbrev pub Wider : (ℕ → Bool) → (ℕ → Bool) → Type 0
@@ -24,11 +25,6 @@ at-head {x = false} {y = false} wider = omega arith
 at-head {x = false} {y = true} wider = omega arith
 at-head {x = true} wider = rw (wider refl) (omega arith)
 
--- counted threads are live
-and-left : (x y : Bool) → x && y ≡ true → x ≡ true
-and-left true y h = refl
-and-left false y h = h
-
 -- among the live, too
 and-wider : (x : Bool) {y z : Bool} → (y ≡ true → z ≡ true) → x && y ≡ true → x && z ≡ true
 and-wider true wider h = wider h
@@ -38,7 +34,7 @@ and-wider false wider h = h
 pub liveThat-at-most : (f : ℕ → Bool) (ts : List Thread) → liveThat f ts ≤ liveThreads ts
 unfolding liveThat liveThreads
 liveThat-at-most f [] = omega arith
-liveThat-at-most f (t ∷ ts) = at-head (and-left (t .live) (f zero)) .0 (liveThat-at-most (λ n. f (suc n)) ts)
+liveThat-at-most f (t ∷ ts) = at-head (and-true-left (t .live) (f zero)) .0 (liveThat-at-most (λ n. f (suc n)) ts)
 
 -- a wider test counts no fewer
 liveThat-wider : (f g : ℕ → Bool) → Wider f g → (ts : List Thread) → liveThat f ts ≤ liveThat g ts

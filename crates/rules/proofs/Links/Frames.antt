@@ -27,7 +27,8 @@ at-once-chain u (call e p) = no-both u e
 at-once-chain u (help e p) = no-both-help u e
 
 -- the links from a thread end at one thread only, whatever the chain so far
-same-end : {ln : ℕ → Link} {n n′ m m′ : ℕ} {c c′ d d′ : Chain} → n ≡ n′ → To ln n c m d → ln m ≡ unlinked → To ln n′ c′ m′ d′ → ln m′ ≡ unlinked → m ≡ m′
+same-end : {ln : ℕ → Link} {n n′ m m′ : ℕ} {c c′ d d′ : Chain} → n ≡ n′ → To ln n c m d → ln m ≡ unlinked → To ln n′ c′ m′ d′
+    → ln m′ ≡ unlinked → m ≡ m′
 same-end {ln = ln} z stop u q v = z ∙ at-once (rw z at u) q
 same-end {ln = ln} z (call e p) u stop v = no-both (rw (sym z) at v) e
 same-end {ln = ln} z (call e p) u (call f q) v = same-end (cc (ap ln z)) p u q v

@@ -17,7 +17,6 @@ use Rattle.rules.proofs.Basics.Views.{Two, yes-true, no-false, two, cla
 use Rattle.rules.proofs.Basics.Views.{and-true-left, and-true-right, Either, first, second, or-true-cases, or-true-right}
 use Rattle.rules.proofs.Basics.Members.{not-listed, member-here, member-there, member-tail, member-none, each}
 use Rattle.rules.proofs.Basics.Members.{distinct-head, distinct-tail, distinct-cons}
-pub use Rattle.rules.proofs.Basics.Members.{all-at, all-of, below-at, below-of, some-none, distinct-map, map-distinct}
 
 -- how many stand in the list before a: the list's length where a is no member
 pub place : List ℕ → ℕ → ℕ
@@ -119,9 +118,6 @@ module _ (ss : List Slice) (order : List ℕ) where
       absurd (n (own-place order a b h (omega arith)))
 
   -- the laws of `standsAbove`
-  pub above-irrefl : (a : ℕ) → standsAbove ss order a a ≡ false
-  above-irrefl a = is-false (standsAbove ss order a a) (λ e. not-above-itself (above-numbers a a e))
-
   pub above-trans : (a b c : ℕ)
       → standsAbove ss order a b ≡ true → standsAbove ss order b c ≡ true → standsAbove ss order a c ≡ true
   above-trans a b c p q = numbers-above (above-above (above-numbers a b p) (above-numbers b c q))

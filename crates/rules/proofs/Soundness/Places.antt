@@ -18,11 +18,13 @@ use Rattle.rules.specs.Order.{standsAbove}
 use Rattle.rules.specs.Walk.{chainOf, verdict}
 use Rattle.rules.specs.Release.{inQueue, topmostAt}
 use Rattle.rules.specs.Sound.{shaped, placed, settled, settledOn, placeGood, waitsAt, isStalls, runsAs, sound}
-use Rattle.rules.proofs.Basics.Views.{Two, yes-true, no-false, two, clash, and-true-left, and-true-right, and-true-both, and3, or-true-left, or-true-right}
+use Rattle.rules.proofs.Basics.Views.{Two, yes-true, no-false, two, clash, and-true-left, and-true-right, and-true-both, and3}
+use Rattle.rules.proofs.Basics.Views.{or-true-left, or-true-right}
 use Rattle.rules.proofs.Basics.Members.{all-at, all-of, below-at, below-of}
 use Rattle.rules.proofs.Order.Orders.{top-some}
 use Rattle.rules.proofs.Soundness.Shapes.{Shape, shape-of, of-shape}
-use Rattle.rules.proofs.Soundness.Standings.{Waits, Stalls, RunsAt, Standing, running, retrying, waiting, stalling, standing, waits-walk, stalls-walk, runs-walk}
+use Rattle.rules.proofs.Soundness.Standings.{Waits, Stalls, RunsAt, Standing, running, retrying, waiting, stalling, standing}
+use Rattle.rules.proofs.Soundness.Standings.{waits-walk, stalls-walk, runs-walk}
 
 -- the owner of a timeslice
 abbrev pub owner : State → ℕ → ℕ
@@ -53,7 +55,8 @@ pub record Mid (s : State) : Type 0 where
 
 pub data Settled (s : State) : Type 0 where
   nothing : s .running ≡ Nothing → topmostAt inQueue s ≡ none → Settled s
-  runs-on : (t n count : ℕ) → s .running ≡ Runs n t count → topmostAt inQueue s ≡ some t → RunsAt (s .threads) (owner s t) n count → Settled s
+  runs-on : (t n count : ℕ) → s .running ≡ Runs n t count → topmostAt inQueue s ≡ some t → RunsAt (s .threads) (owner s t) n count
+      → Settled s
 
 pub record Sound (s : State) : Type 0 where
   pub mid : Mid s
@@ -114,7 +117,8 @@ placesTest s = all (λ t. placeGood s t (chainOf (s .threads) (s .slices) t) (pl
 abbrev freeTest : State → Bool
 freeTest s = below limit (λ t. member t (s .order) || inQueue (placeAt (s .places) t))
 
-free-place : (s : State) → length (s .places) ≡ limit → freeTest s ≡ true → (t : ℕ) → member t (s .order) ≡ false → placeAt (s .places) t ≡ Queue
+free-place : (s : State) → length (s .places) ≡ limit → freeTest s ≡ true → (t : ℕ) → member t (s .order) ≡ false
+    → placeAt (s .places) t ≡ Queue
 free-place s full e t h = by (two (ltb t limit))
   where
     by : Two (ltb t limit) → placeAt (s .places) t ≡ Queue

@@ -1,4 +1,5 @@
--- Soundness of a machine without its places, as records of statements about every thread and every timeslice, and back to the computed test.
+-- Soundness of a machine without its places, as records of statements about every thread and every timeslice, and back to the computed
+-- test.
 use Prim.Native.Nat.{ℕ, _<_}
 use mathlib.Core.Path.{_≡_, refl, ap}
 use mathlib.Core.List.{List, map}
@@ -19,7 +20,8 @@ use Rattle.rules.specs.State.{Slice, Plain, limit, freeThread, freeSlice
 use Rattle.rules.specs.Sound.{isServer, isReady, isNobody, isCalling, isServing, inRange, idleGood, threadFree, sliceFree}
 use Rattle.rules.specs.Sound.{callIsServed, servedIsCalling, linkGood, tablesFull, turnsOnce, ownersLive, rangesHold}
 use Rattle.rules.specs.Sound.{callsServed, linksGood, idlesGood, freeThreads, freeSlices, freeSlots, shaped}
-use Rattle.rules.proofs.Basics.Views.{Two, yes-true, no-false, two, clash, and-true-left, and-true-right, and-true-both, and3, and4, and5}
+use Rattle.rules.proofs.Basics.Views.{Two, yes-true, no-false, two, clash, and-true-left, and-true-right, and-true-both, and3}
+use Rattle.rules.proofs.Basics.Views.{and4, and5}
 use Rattle.rules.proofs.Basics.Views.{or-true-left, or-true-right}
 use Rattle.rules.proofs.Basics.Members.{all-at, all-of, below-at, below-of, distinct-map, map-distinct}
 
@@ -158,7 +160,9 @@ sane-of p c =
     record {
       full = full;
       served = λ n s e. serving-is (serviceAt ts s) n (rw e at (and-true-left (callIsServed ts n (holdAt ts n)) _ (pairs n)));
-      calling = λ n s e. calling-is (holdAt ts n) s (rw e at (and-true-right (callIsServed ts s (holdAt ts s)) (servedIsCalling ts s (serviceAt ts s)) (pairs s)));
+      calling =
+          λ n s e. calling-is (holdAt ts n) s
+          (rw e at (and-true-right (callIsServed ts s (holdAt ts s)) (servedIsCalling ts s (serviceAt ts s)) (pairs s)));
       linked = everywhere ts (λ n t. linkGood ts n (t .hold)) full (λ n. refl) (c .links);
       idle = everywhere ts (λ n t. idleGood t) full (λ n. refl) (c .idles);
       free = λ n e. thread-free (threadAt ts n) e (rw e at (frees n));
@@ -166,14 +170,17 @@ sane-of p c =
 
 turns-of : (p : Plain) → Clauses p → Turns (p .threads) (p .slices) (p .order)
 turns-of p c =
-    let full : length (p .slices) ≡ limit = eqb-true (length (p .slices)) limit (and-true-right (eqb (length (p .threads)) limit) _ (c .tables)) in
+    let full : length (p .slices) ≡ limit = eqb-true (length (p .slices)) limit
+    (and-true-right (eqb (length (p .threads)) limit) _ (c .tables)) in
     let once : distinct (p .order) ≡ true = and-true-right (all (λ t. ltb t limit) (p .order)) (distinct (p .order)) (c .turns) in
     record {
       full = full;
       small = λ t h. ltb-true t limit (all-at (λ u. ltb u limit) (p .order) (and-true-left _ (distinct (p .order)) (c .turns)) t h);
       once = once;
       owner = all-at (λ t. liveAt (p .threads) (ownerAt (p .slices) t)) (p .order) (and-true-left _ _ (c .owners));
-      owners = λ t u ht hu e. distinct-map (λ t. ownerAt (p .slices) t) (p .order) (and-true-right (all (λ t. liveAt (p .threads) (ownerAt (p .slices) t)) (p .order)) (distinct (map (λ t. ownerAt (p .slices) t) (p .order))) (c .owners)) t u ht hu e;
+      owners = λ t u ht hu e. distinct-map (λ t. ownerAt (p .slices) t) (p .order)
+          (and-true-right (all (λ t. liveAt (p .threads) (ownerAt (p .slices) t)) (p .order))
+          (distinct (map (λ t. ownerAt (p .slices) t) (p .order))) (c .owners)) t u ht hu e;
       range = all-at (λ t. inRange (sliceAt (p .slices) t)) (p .order) (c .ranges);
       free = free-of full;
     }
@@ -181,7 +188,8 @@ turns-of p c =
     free-by : length (p .slices) ≡ limit → (t : ℕ) → member t (p .order) ≡ false → Two (ltb t limit) → sliceAt (p .slices) t ≡ freeSlice
     free-by full t n (yes-true h) =
         slice-free (sliceAt (p .slices) t)
-        (rw n at (below-at (λ u. member u (p .order) || sliceFree (sliceAt (p .slices) u)) limit (and-true-right (freeThreads p) (freeSlices p) (c .free)) t (ltb-true t limit h)))
+        (rw n at (below-at (λ u. member u (p .order) || sliceFree (sliceAt (p .slices) u)) limit
+        (and-true-right (freeThreads p) (freeSlices p) (c .free)) t (ltb-true t limit h)))
     free-by full t n (no-false h) =
         List·getD-eq-default (p .slices) freeSlice (omega (arith, borrow.Author.Tests.ltb-false t limit h))
 

@@ -14,7 +14,8 @@ use Rattle.rules.specs.State.{holdAt, liveAt}
 use Rattle.rules.specs.Walk.{unlinked, donation, helping, linkOf, noLinks, ended, walk, verdict, atEnd, runs, retries, waits, stalls}
 use Rattle.rules.specs.Sound.{linkTo, serverAt}
 use Rattle.rules.proofs.Basics.Views.{Two, yes-true, no-false, two, and-true-left, and-true-right}
-use Rattle.rules.proofs.Links.Chains.{linkAt, stop, Ends, LinksLive, looping, Found, ends, loops, found, walk-ends, walk-loops, stays}
+use Rattle.rules.proofs.Links.Chains.{linkAt, stop, Ends, LinksLive, looping, Found, ends, loops, found, walk-ends, walk-loops}
+use Rattle.rules.proofs.Links.Chains.{stays}
 use Rattle.rules.proofs.Soundness.Shapes.{Sane}
 
 -- the link of a hold, and the hold of a link
@@ -109,10 +110,12 @@ at-ready ts x m d e h = ap (verdict ts) e ∙ ap (λ k. atEnd k (d .links)) h
 at-blocked : (ts : List Thread) (x m : ℕ) (d : Chain) → walk ts x ≡ ended m d → holdAt ts m ≡ Blocked → verdict ts (walk ts x) ≡ waits
 at-blocked ts x m d e h = ap (verdict ts) e ∙ ap (λ k. atEnd k (d .links)) h
 
-at-idle : (ts : List Thread) (x m : ℕ) (d : Chain) → walk ts x ≡ ended m d → holdAt ts m ≡ Idle → 0 < d .links → verdict ts (walk ts x) ≡ retries
+at-idle : (ts : List Thread) (x m : ℕ) (d : Chain) → walk ts x ≡ ended m d → holdAt ts m ≡ Idle → 0 < d .links
+    → verdict ts (walk ts x) ≡ retries
 at-idle ts x m d e h l = ap (verdict ts) e ∙ ap (λ k. atEnd k (d .links)) h ∙ rw (lt-ltb 0 (d .links) l)
 
-at-idle-owner : (ts : List Thread) (x m : ℕ) (d : Chain) → walk ts x ≡ ended m d → holdAt ts m ≡ Idle → d .links ≡ 0 → verdict ts (walk ts x) ≡ waits
+at-idle-owner : (ts : List Thread) (x m : ℕ) (d : Chain) → walk ts x ≡ ended m d → holdAt ts m ≡ Idle → d .links ≡ 0
+    → verdict ts (walk ts x) ≡ waits
 at-idle-owner ts x m d e h l = ap (verdict ts) e ∙ ap (λ k. atEnd k (d .links)) h ∙ rw l
 
 at-loop : (ts : List Thread) (x : ℕ) → walk ts x ≡ looping ts → verdict ts (walk ts x) ≡ stalls
@@ -122,9 +125,11 @@ at-loop ts x e = ap (verdict ts) e
 pub standing : (ts : List Thread) → Sane ts → (x : ℕ) → liveAt ts x ≡ true → Standing ts x
 standing ts s x h = by (found ts (links-live s) x h)
   where
-    at-idle-end : (m : ℕ) (d : Chain) → Ends (linkAt ts) x noLinks m d → walk ts x ≡ ended m d → holdAt ts m ≡ Idle → Two (ltb 0 (d .links)) → Standing ts x
+    at-idle-end : (m : ℕ) (d : Chain) → Ends (linkAt ts) x noLinks m d → walk ts x ≡ ended m d → holdAt ts m ≡ Idle
+        → Two (ltb 0 (d .links)) → Standing ts x
     at-idle-end m d p e i (yes-true l) =
-        retrying m (record { chain = d; ends = p; idle = i; links = ltb-true 0 (d .links) l }) e (at-idle ts x m d e i (ltb-true 0 (d .links) l))
+        retrying m (record { chain = d; ends = p; idle = i; links = ltb-true 0 (d .links) l }) e
+        (at-idle ts x m d e i (ltb-true 0 (d .links) l))
     at-idle-end m d p e i (no-false l) =
         let z : d .links ≡ 0 = omega (arith, ltb-false 0 (d .links) l) in
         waiting m (idle (stays (p .path) z .0) i) (ap (λ (c : Chain). c .end) e) (at-idle-owner ts x m d e i z)
@@ -139,7 +144,8 @@ standing ts s x h = by (found ts (links-live s) x h)
     by (loops e never) = stalling never e (at-loop ts x e)
 
 -- from what the links say to the walk and its verdict
-pub waits-walk : {ts : List Thread} → Sane ts → {x n : ℕ} → liveAt ts x ≡ true → Waits ts x n → (verdict ts (walk ts x) ≡ waits) × (walk ts x .end ≡ n)
+pub waits-walk : {ts : List Thread} → Sane ts → {x n : ℕ} → liveAt ts x ≡ true → Waits ts x n
+    → (verdict ts (walk ts x) ≡ waits) × (walk ts x .end ≡ n)
 waits-walk {ts} s {x} {n} h (blocked {d = d} p b) =
     let e = walk-ends ts (links-live s) x h p in
     (at-blocked ts x n d e b, ap (λ (c : Chain). c .end) e)

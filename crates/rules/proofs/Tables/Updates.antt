@@ -1,4 +1,5 @@
--- What each change of document 01's events does to the table of threads: it stays sane, the live threads stay, and the link of one thread changes.
+-- What each change of document 01's events does to the table of threads: it stays sane, the live threads stay, and the link of one
+-- thread changes.
 use Prim.Native.Nat.{ℕ, suc, _<_}
 use mathlib.Core.Path.{_≡_, refl, sym, ap, _∙_, subst}
 use mathlib.Core.List.{List}
@@ -27,7 +28,8 @@ use Rattle.rules.proofs.Soundness.Standings.{Target, call-target}
 use Rattle.rules.proofs.Tables.Partners.{donee, patron, Matched, matched, matched-served, matched-calling}
 use Rattle.rules.proofs.Tables.Partners.{same-partners, Bond, apart, bound, turned-partners}
 use Rattle.rules.proofs.Tables.Writes.{roleAt, starting, within, Relabels, Written, Made}
-use Rattle.rules.proofs.Tables.Writes.{hold-written, donate-written, reply-written, reply-orphan-written, abort-written, created-made}
+use Rattle.rules.proofs.Tables.Writes.{hold-written, donate-written, reply-written, reply-orphan-written, abort-written}
+use Rattle.rules.proofs.Tables.Writes.{created-made}
 
 -- "Idle holds exactly for servers with service none; clients serve nobody", over the three tests
 abbrev fit : Bool → Bool → Bool → Bool
@@ -285,7 +287,8 @@ pair : {ts ts′ : List Thread} {caller server : ℕ} {a b : Hold} {v : Service}
 pair x w c = record { update = update-of x w c; at-caller = w .hold-a; at-server = w .hold-b; others = w .holds }
 
 -- a donation, and the retry of a helper
-pub donate-update : (ts : List Thread) (caller server : ℕ) → Sane ts → liveAt ts caller ≡ true → Free (holdAt ts caller) → holdAt ts server ≡ Idle
+pub donate-update : (ts : List Thread) (caller server : ℕ) → Sane ts → liveAt ts caller ≡ true → Free (holdAt ts caller)
+    → holdAt ts server ≡ Idle
     → PairUpdate ts (donate caller server ts) caller server (Calling server) Ready
 donate-update ts caller server x live old idle =
     let to = idle-target caller server x (old .busy) idle in
@@ -328,7 +331,8 @@ orphan-update ts server x ready serves =
     })
 
 -- the abort of a caller: its server is left an orphan, with the hold that it had
-pub abort-update : (ts : List Thread) (caller server : ℕ) → Sane ts → holdAt ts caller ≡ Calling server → HoldUpdate ts (aborted caller ts) caller Ready
+pub abort-update : (ts : List Thread) (caller server : ℕ) → Sane ts → holdAt ts caller ≡ Calling server
+    → HoldUpdate ts (aborted caller ts) caller Ready
 abort-update ts caller server x calls =
     let to = call-target x caller server calls in
     let live = unready-live x caller (ap isReady calls) in

@@ -8,12 +8,13 @@ use lib.ListN.{length, getD, set, length-set, List·getD-map}
 use lib.Seq.{getD-set-same, getD-set-other, map-set-same}
 use Rattle.rules.specs.declared.Role.{Role}
 use Rattle.rules.specs.declared.Hold.{Hold}
-use Rattle.rules.specs.declared.Hold.the-variants.{Ready, Idle, Calling}
+use Rattle.rules.specs.declared.Hold.the-variants.{Ready, Idle, Blocked, Calling, Helping}
 use Rattle.rules.specs.declared.Service.{Service}
 use Rattle.rules.specs.declared.Service.the-variants.{Nobody, Serving, Orphan}
 use Rattle.rules.specs.declared.Thread.{Thread}
 use Rattle.rules.specs.State.{freeThread, threadAt, holdAt, serviceAt, liveAt, liveThreads, oneMoreIf}
-use Rattle.rules.specs.Threads.{withHold, withService, setHold, setService, startsAs, created, donate, replied, aborted}
+use Rattle.rules.specs.Threads.{withHold, withService, setHold, setService, startsAs, created, donate, freeCaller, replied}
+use Rattle.rules.specs.Threads.{orphanServer, aborted}
 use Rattle.rules.proofs.Basics.Views.{clash}
 
 abbrev pub roleAt : List Thread → ℕ → Role
@@ -38,17 +39,17 @@ set-keeps f ts n m t e =
     ∙ List·getD-map f ts m freeThread
 
 -- the live threads are as many where the one written is as live as before, and one more where a free slot becomes live
-set-keeps-count : (ts : List Thread) (n : ℕ) (t : Thread) → t .live ≡ liveAt ts n → liveThreads (set ts n t) ≡ liveThreads ts
+pub set-keeps-count : (ts : List Thread) (n : ℕ) (t : Thread) → t .live ≡ liveAt ts n → liveThreads (set ts n t) ≡ liveThreads ts
 unfolding liveThreads
 set-keeps-count [] n t e = refl
 set-keeps-count (x ∷ ts) zero t e = rw e
 set-keeps-count (x ∷ ts) (suc n) t e = ap (oneMoreIf (x .live)) (set-keeps-count ts n t e)
 
-one-more : (b : Bool) (n : ℕ) → oneMoreIf b (suc n) ≡ suc (oneMoreIf b n)
+pub one-more : (b : Bool) (n : ℕ) → oneMoreIf b (suc n) ≡ suc (oneMoreIf b n)
 one-more true n = refl
 one-more false n = refl
 
-set-raises-count : (ts : List Thread) (n : ℕ) (t : Thread) → n < length ts → liveAt ts n ≡ false → t .live ≡ true
+pub set-raises-count : (ts : List Thread) (n : ℕ) (t : Thread) → n < length ts → liveAt ts n ≡ false → t .live ≡ true
     → liveThreads (set ts n t) ≡ suc (liveThreads ts)
 unfolding liveThreads
 set-raises-count [] n t h free live = absurd (omega arith)
@@ -63,7 +64,7 @@ pub record Relabels (ts ts′ : List Thread) : Type 0 where
   pub role : (m : ℕ) → roleAt ts′ m ≡ roleAt ts m
   pub count : liveThreads ts′ ≡ liveThreads ts
 
-then-relabels : {ts ts′ ts″ : List Thread} → Relabels ts ts′ → Relabels ts′ ts″ → Relabels ts ts″
+pub then-relabels : {ts ts′ ts″ : List Thread} → Relabels ts ts′ → Relabels ts′ ts″ → Relabels ts ts″
 then-relabels x y =
     record {
       size = y .size ∙ x .size;
@@ -72,7 +73,7 @@ then-relabels x y =
       count = y .count ∙ x .count;
     }
 
-set-relabels : (ts : List Thread) (n : ℕ) (t : Thread) → t .live ≡ liveAt ts n → t .role ≡ roleAt ts n → Relabels ts (set ts n t)
+pub set-relabels : (ts : List Thread) (n : ℕ) (t : Thread) → t .live ≡ liveAt ts n → t .role ≡ roleAt ts n → Relabels ts (set ts n t)
 set-relabels ts n t live role =
     record {
       size = length-set ts n t;
@@ -82,7 +83,7 @@ set-relabels ts n t live role =
     }
 
 -- after setHold
-hold-relabels : (ts : List Thread) (n : ℕ) (h : Hold) → Relabels ts (setHold n h ts)
+pub hold-relabels : (ts : List Thread) (n : ℕ) (h : Hold) → Relabels ts (setHold n h ts)
 unfolding setHold
 hold-relabels ts n h = set-relabels ts n (withHold h (threadAt ts n)) refl refl
 
@@ -99,7 +100,7 @@ unfolding setHold
 hold-service ts n m h = set-keeps (λ t. t .service) ts n m (withHold h (threadAt ts n)) refl
 
 -- after setService
-service-relabels : (ts : List Thread) (n : ℕ) (v : Service) → Relabels ts (setService n v ts)
+pub service-relabels : (ts : List Thread) (n : ℕ) (v : Service) → Relabels ts (setService n v ts)
 unfolding setService
 service-relabels ts n v = set-relabels ts n (withService v (threadAt ts n)) refl refl
 
@@ -114,6 +115,40 @@ service-there ts n m v o = ap (λ (t : Thread). t .service) (getD-set-other ts n
 service-hold : (ts : List Thread) (n m : ℕ) (v : Service) → holdAt (setService n v ts) m ≡ holdAt ts m
 unfolding setService
 service-hold ts n m v = set-keeps (λ t. t .hold) ts n m (withService v (threadAt ts n)) refl
+
+-- after every change of document 01's events between two threads, whoever they are
+pub donate-relabels : (ts : List Thread) (caller server : ℕ) → Relabels ts (donate caller server ts)
+unfolding donate
+donate-relabels ts caller server =
+    then-relabels
+    (then-relabels (hold-relabels ts caller (Calling server)) (hold-relabels _ server Ready))
+    (service-relabels _ server (Serving caller))
+
+same-relabels : (ts : List Thread) → Relabels ts ts
+same-relabels ts = record { size = refl; live = λ m. refl; role = λ m. refl; count = refl }
+
+freed-relabels : (ts : List Thread) (v : Service) → Relabels ts (freeCaller v ts)
+freed-relabels ts Nobody = same-relabels ts
+freed-relabels ts (Serving caller) = hold-relabels ts caller Ready
+freed-relabels ts Orphan = same-relabels ts
+
+pub replied-relabels : (ts : List Thread) (server : ℕ) → Relabels ts (replied server ts)
+unfolding replied
+replied-relabels ts server =
+    then-relabels
+    (then-relabels (freed-relabels ts (serviceAt ts server)) (hold-relabels _ server Idle))
+    (service-relabels _ server Nobody)
+
+orphaned-relabels : (ts : List Thread) (h : Hold) → Relabels ts (orphanServer h ts)
+orphaned-relabels ts Ready = same-relabels ts
+orphaned-relabels ts Idle = same-relabels ts
+orphaned-relabels ts Blocked = same-relabels ts
+orphaned-relabels ts (Calling server) = service-relabels ts server Orphan
+orphaned-relabels ts (Helping server) = same-relabels ts
+
+pub aborted-relabels : (ts : List Thread) (n : ℕ) → Relabels ts (aborted n ts)
+unfolding aborted
+aborted-relabels ts n = then-relabels (orphaned-relabels ts (holdAt ts n)) (hold-relabels _ n Ready)
 
 -- the reads after a whole change: thread a has hold h, thread b hold k and service v, and the rest stands; one thread may be both
 pub record Written (ts ts′ : List Thread) (a b : ℕ) (h k : Hold) (v : Service) : Type 0 where

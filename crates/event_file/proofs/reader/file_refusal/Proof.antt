@@ -1,5 +1,5 @@
 -- `file_refusal`: the head is refused first, then the records.
-use Rattle.event_file.proofs.Cursor.{refused-by-head, refused-by-records}
+use Rattle.rules.proofs.Files.Stepping.{refused-by-head, refused-by-records}
 use denote.Ref.{now}
 use borrow.Author.Needs.{needs}
 use Rattle.event_file.proofs.reader.file_refusal.Statement.{statement}

@@ -2,7 +2,7 @@
 use denote.Ref.{now}
 use mathlib.Core.Path.{ap}
 use Rattle.rules.specs.EventFile.{Opened}
-use Rattle.event_file.proofs.Cursor.{opened-accepted, opened-refused}
+use Rattle.rules.proofs.Files.Stepping.{opened-accepted, opened-refused}
 use borrow.Author.Needs.{needs}
 use Rattle.event_file.proofs.reader.open.Statement.{statement}
 use Rattle.event_file.proofs.reader.open.Tie as tie

@@ -4,11 +4,11 @@ use mathlib.Core.List.{List}
 use native.Mathlib.Omega.{arith}
 use lib.ListN.{length}
 use lib.Seq.{sets, length-sets}
-use Rattle.event_file.proofs.Accepting.{Addable, addable, addable-five}
+use Rattle.rules.proofs.Files.Accepting.{Addable, addable, addable-five}
 use denote.Ref.{now}
 use mathlib.Core.Path.{ap, sym, _∙_}
 use Rattle.rules.specs.EventFile.{Written, recordOf, fourBytes}
-use Rattle.event_file.proofs.Writing.{appended-accepted, appended-refused}
+use Rattle.rules.proofs.Files.Writing.{appended-accepted, appended-refused}
 use borrow.Author.Needs.{needs}
 use Rattle.event_file.proofs.writer.append.Statement.{statement}
 use Rattle.event_file.proofs.writer.append.Tie as tie
@@ -53,8 +53,10 @@ put-length-requires : tie.Need-put-length-requires
 put-length-requires c κs =
     let at-else = c .before .before .before .before .before .before in
     let at-size = c .before .before .before .before .before in
-    let event = at-else .before .before .before .before .args .event in
-    let same-size = ap length (c .before .before .before .put-record .ensures) ∙ length-sets _ _ (recordOf event) in (
+    let given = at-else .before .before .before .before .args in
+    let same-size =
+    ap length (c .before .before .before .put-record .ensures)
+    ∙ length-sets (now (given .buffer)) (given .filled) (recordOf (given .event)) in (
       omega (arith, same-size, five at-else, may-add at-else .room),
       omega (arith, may-add at-else .small, at-size .record-length .ensures .0),
     )

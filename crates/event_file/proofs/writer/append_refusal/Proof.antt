@@ -6,7 +6,7 @@ use denote.Ref.{now}
 use mathlib.Core.Path.{_≡_, sym}
 use lib.Seq.{length-take-le}
 use borrow.Author.Tests.{le-ltb, lt-ltb}
-use Rattle.event_file.proofs.Writing.{refused-file, refused-filled, refused-room}
+use Rattle.rules.proofs.Files.Writing.{refused-file, refused-filled, refused-room}
 use borrow.Author.Needs.{needs}
 use Rattle.event_file.proofs.writer.append_refusal.Statement.{statement}
 use Rattle.event_file.proofs.writer.append_refusal.Tie as tie

@@ -5,7 +5,7 @@ use lib.ListN.{set}
 use denote.Ref.{now}
 use mathlib.Core.Path.{ap}
 use Rattle.rules.specs.EventFile.{Written}
-use Rattle.event_file.proofs.Writing.{started-accepted, started-refused}
+use Rattle.rules.proofs.Files.Writing.{started-accepted, started-refused}
 use borrow.Author.Needs.{needs}
 use Rattle.event_file.proofs.writer.start.Statement.{statement}
 use Rattle.event_file.proofs.writer.start.Tie as tie

@@ -1,11 +1,13 @@
--- The loop's invariant: the lines so far and those of the events that are left make the whole. Without an event none are left.
+-- The lines so far and those of the events that are left make the whole; where no event is found, none are left.
 use Prim.Native.Nat.{_-_}
-use native.Mathlib.Omega.{arith}
+use mathlib.Core.Path.{sym, ap, _∙_}
 use lib.ListN.{length}
 use denote.Ref.{now}
-use borrow.Author.Tests.{not-true, not-false}
+use Rattle.event_file.specs.Answers.{shownFound}
 use Rattle.text.proofs.Puts.{keeps}
-use Rattle.key_sheet.proofs.Printing.{Going, begin, next, further, done}
+use Rattle.key_sheet.proofs.Printing.{Going, begin, printed, further, done}
+use borrow.Author.Needs.{needs}
+use native.Mathlib.Omega.{arith}
 use Rattle.key_sheet.proofs.lines.put_lines.Statement.{statement}
 use Rattle.key_sheet.proofs.lines.put_lines.Tie as tie
 
@@ -24,41 +26,51 @@ loop-holds c =
     begin (now (start .args .file)) (now (start .args .out)) (c .empty .result) (c .empty .ensures)
     (λ i. c .before .before .shared-slice-known .given i .fits) (start .pre)
 
-turn-requires : tie.Need-turn-requires Inv-loop μ-loop
-turn-requires c κs = c .loop .inv .ahead .sound
+step-requires : tie.Need-step-requires Inv-loop μ-loop
+step-requires c κs = tt
+
+enum-known-found : tie.Need-enum-known-found Inv-loop μ-loop
+enum-known-found c = search needs
 
 same-length : tie.Need-same-length Inv-loop μ-loop
-same-length c = keeps (c .before .before .before .loop .inv .put)
+same-length c = keeps (c .before .before .loop .inv .put)
 
 returns : tie.Need-returns Inv-loop μ-loop
-returns c =
-    let turned = c .before .before in
-    done (turned .before .loop .inv) (turned .turn .ensures) (not-true _ (c .if1 .taken))
+returns c = let read = c .before in done (read .before .loop .inv) (read .step .result .found) (c .match .keys2) (read .step .ensures .0)
+
+dispatch-requires : tie.Need-dispatch-requires Inv-loop μ-loop
+dispatch-requires c κs = c .before .before .before .before .loop .inv .ahead .sound
 
 put-line-requires : tie.Need-put-line-requires Inv-loop μ-loop
 put-line-requires c κs = tt
 
 add-number : tie.Need-add-number Inv-loop μ-loop
 add-number c =
-    let event = c .before .before .before .before .before in
-    let turned = event .before .before in
-    let going = turned .before .loop .inv in
-    let on = further going (turned .turn .ensures) (not-false _ (event .if1 .left)) in
+    let given = c .before .before .before .before .before in
+    let told = given .before .before in
+    let read = told .before .before in
+    let going = read .before .loop .inv in
+    let found = sym (ap shownFound (told .found .given .1)) ∙ read .step .ensures .0 in
+    let on = further going found (read .step .ensures .1) (given .dispatch .ensures) in
     record { fits = omega (arith, going .few, on) }
 
 loop-less : tie.Need-loop-less Inv-loop μ-loop
 loop-less c =
-    let event = c .before .before .before .before .before in
-    let turned = event .before .before in
-    let going = turned .before .loop .inv in
-    omega (arith, further going (turned .turn .ensures) (not-false _ (event .if1 .left)))
+    let given = c .before .before .before .before .before in
+    let told = given .before .before in
+    let read = told .before .before in
+    let going = read .before .loop .inv in
+    let found = sym (ap shownFound (told .found .given .1)) ∙ read .step .ensures .0 in
+    omega (arith, further going found (read .step .ensures .1) (given .dispatch .ensures))
 
 loop-again : tie.Need-loop-again Inv-loop μ-loop
 loop-again c =
-    let event = c .before .before .before .before .before in
-    let turned = event .before .before in
-    let going = turned .before .loop .inv in
-    next going (turned .turn .ensures) (not-false _ (event .if1 .left)) (c .before .before .put-line .ensures)
+    let given = c .before .before .before .before .before in
+    let told = given .before .before in
+    let read = told .before .before in
+    let going = read .before .loop .inv in
+    let found = sym (ap shownFound (told .found .given .1)) ∙ read .step .ensures .0 in
+    printed going found (read .step .ensures .1) (given .dispatch .ensures) (c .before .before .put-line .ensures)
 
 pub put-lines-spec : {M : Type 1} → statement M
 put-lines-spec =
@@ -68,9 +80,11 @@ put-lines-spec =
     μ-loop
     empty-requires
     loop-holds
-    turn-requires
+    step-requires
+    enum-known-found
     same-length
     returns
+    dispatch-requires
     put-line-requires
     add-number
     loop-less

@@ -1,7 +1,8 @@
 -- `block`: no operand.
 use denote.Ref.{now}
 use Rattle.rules.specs.declared.Event.the-variants.{Block}
-use Rattle.event_file.proofs.Shapes.{fit, unfit, noOperand-is}
+use Rattle.event_file.proofs.Shapes.{fit, unfit}
+use Rattle.rules.proofs.Files.Operands.{noOperand-is}
 use Rattle.event_file.proofs.reader.operands.block.Statement.{statement}
 use Rattle.event_file.proofs.reader.operands.block.Tie as tie
 

@@ -7,7 +7,7 @@ use lib.ListN.{length, getD, take, drop, length-drop}
 use lib.Seq.{take-all}
 use Rattle.rules.specs.EventFile.{eventOf}
 use Rattle.event_file.specs.Answers.{foundOf}
-use Rattle.event_file.proofs.Reading.{bodyOf-empty, bodyOf-kind}
+use Rattle.rules.proofs.Files.Reading.{bodyOf-empty, bodyOf-kind}
 use mathlib.Core.Path.{_≡_, _∙_, ap, sym}
 use borrow.Author.Needs.{needs}
 use Rattle.event_file.proofs.reader.operands.body.Statement.{statement}

@@ -1,7 +1,8 @@
 -- `charge`: two operands, which are one number.
 use denote.Ref.{now}
 use Rattle.rules.specs.declared.Event.the-variants.{Charge}
-use Rattle.event_file.proofs.Shapes.{fit, unfit, oneWord-is}
+use Rattle.event_file.proofs.Shapes.{fit, unfit}
+use Rattle.rules.proofs.Files.Operands.{oneWord-is}
 use borrow.Author.Needs.{needs}
 use Rattle.event_file.proofs.reader.operands.charge.Statement.{statement}
 use Rattle.event_file.proofs.reader.operands.charge.Tie as tie

@@ -5,7 +5,8 @@ use Rattle.rules.specs.EventFile.{createFrom, createWith}
 use Rattle.event_file.specs.Answers.{foundOf}
 use denote.Ref.{now}
 use borrow.Author.Tests.{eq-eqb, ne-eqb}
-use Rattle.event_file.proofs.Shapes.{fit, unfit, createFrom-is}
+use Rattle.event_file.proofs.Shapes.{fit, unfit}
+use Rattle.rules.proofs.Files.Operands.{createFrom-is}
 use borrow.Author.Needs.{needs}
 use Rattle.event_file.proofs.reader.operands.create.Statement.{statement}
 use Rattle.event_file.proofs.reader.operands.create.Tie as tie

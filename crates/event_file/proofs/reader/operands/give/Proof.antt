@@ -1,6 +1,7 @@
 -- `give`: five operands, of which the last two are one number.
 use denote.Ref.{now}
-use Rattle.event_file.proofs.Shapes.{fit, unfit, giveFrom-is}
+use Rattle.event_file.proofs.Shapes.{fit, unfit}
+use Rattle.rules.proofs.Files.Operands.{giveFrom-is}
 use borrow.Author.Needs.{needs}
 use Rattle.event_file.proofs.reader.operands.give.Statement.{statement}
 use Rattle.event_file.proofs.reader.operands.give.Tie as tie

@@ -1,7 +1,8 @@
 -- `reply`: no operand.
 use denote.Ref.{now}
 use Rattle.rules.specs.declared.Event.the-variants.{Reply}
-use Rattle.event_file.proofs.Shapes.{fit, unfit, noOperand-is}
+use Rattle.event_file.proofs.Shapes.{fit, unfit}
+use Rattle.rules.proofs.Files.Operands.{noOperand-is}
 use Rattle.event_file.proofs.reader.operands.reply.Statement.{statement}
 use Rattle.event_file.proofs.reader.operands.reply.Tie as tie
 

@@ -7,7 +7,7 @@ use lib.Seq.{sets}
 use Rattle.rules.specs.declared.Event.{Event}
 use Rattle.rules.specs.EventFile.{recordOf}
 use denote.Ref.{now}
-use Rattle.event_file.proofs.Writing.{same-room, same-stores}
+use Rattle.rules.proofs.Files.Writing.{same-room, same-stores}
 use borrow.Author.Needs.{needs}
 use Rattle.event_file.proofs.writer.records.put_record.Statement.{statement}
 use Rattle.event_file.proofs.writer.records.put_record.Tie as tie

@@ -4,35 +4,24 @@ use mathlib.Core.Path.{_≡_, refl, ap, ap₂, _∙_}
 use mathlib.Core.List.{List, [], _∷_, _++_}
 use mathlib.Core.Option.{Option, some}
 use native.Mathlib.Omega.{arith}
-use lib.ListN.{length, drop, length-append}
+use lib.ListN.{length, length-append}
 use lib.Seq.{take-append-seam, drop-append-seam}
 use borrow.Author.Tests.{le-leb}
 use Rattle.rules.specs.declared.Role.the-variants.{Client, Server}
 use Rattle.rules.specs.declared.Event.{Event}
 use Rattle.rules.specs.declared.Event.the-variants.{Create, Give, Call, Reply, Block, Wake, Charge, Abort}
-use Rattle.rules.specs.EventFile.{wordOf, highByte, lowByte, recordOf, recordsOf, fourBytes, fileOf}
+use Rattle.rules.specs.EventFile.{wordOf, highByte, lowByte, kindOf, operandsOf, recordOf, recordsOf, fourBytes, fileOf}
 use Rattle.rules.specs.EventFile.{bodyOf, recordAt, joined, eventsAfter, lengthField, recordsIn, orNone, fileRefusal, eventsOf}
-use Rattle.event_file.proofs.Reading.{eventsAfter-cons}
-use Rattle.event_file.proofs.Accepting.{Headed, unrefused}
+use Rattle.rules.proofs.Files.Reading.{eventsAfter-cons}
+use Rattle.rules.proofs.Files.Accepting.{Headed, unrefused}
 
 -- two bytes hold their number
 word-back : (n : ℕ) → wordOf (highByte n) (lowByte n) ≡ n
 word-back n = omega arith
 
--- the bytes after a record's length byte
+-- the bytes that a record's length byte counts
 abbrev bodyBytes : Event → List ℕ
-bodyBytes e = drop 1 (recordOf e)
-
--- the length byte counts what follows it
-counted : (e : Event) → recordOf e ≡ length (bodyBytes e) ∷ bodyBytes e
-counted (Create n r) = refl
-counted (Give t n priority quantum) = refl
-counted (Call server) = refl
-counted Reply = refl
-counted Block = refl
-counted (Wake n) = refl
-counted (Charge units) = refl
-counted (Abort n) = refl
+bodyBytes e = kindOf e ∷ operandsOf e
 
 -- a record's bytes are read as its event
 body-back : (e : Event) → bodyOf (bodyBytes e) ≡ some e
@@ -56,8 +45,7 @@ within body rest =
 -- a record, then the rest
 record-back : (e : Event) (rest : List ℕ) → eventsAfter 0 (recordOf e ++ rest) ≡ joined (some e) (eventsAfter 0 rest)
 record-back e rest =
-    ap (λ (l : List ℕ). eventsAfter 0 (l ++ rest)) (counted e)
-    ∙ eventsAfter-cons (length (bodyBytes e)) (bodyBytes e ++ rest)
+    eventsAfter-cons (length (bodyBytes e)) (bodyBytes e ++ rest)
     ∙ ap₂ (λ (o : Option Event) (l : List ℕ). joined o (eventsAfter 0 l))
     (within (bodyBytes e) rest ∙ body-back e)
     (drop-append-seam (bodyBytes e) rest)

@@ -4,14 +4,15 @@ use mathlib.Core.Path.{_≡_, refl, ap, sym, _∙_}
 use mathlib.Core.List.{List, []}
 use mathlib.Core.Option.{Option, none, some}
 use native.Mathlib.Omega.{arith}
-use lib.ListN.{length, getD, drop, drop-of-length-le}
+use lib.ListN.{length, getD, drop}
 use lib.Dec.{eqb}
 use borrow.Author.Tests.{eqb-true, eqb-false}
 use Rattle.rules.specs.declared.Event.{Event}
 use Rattle.rules.specs.EventFile.{recordAt, joined, eventsAfter, Stepped, steppedTo, stepped}
-use Rattle.event_file.specs.Steps.{collected, eventsIn}
-use Rattle.event_file.proofs.Reading.{Two, yes-true, no-false, two, eventsAfter-drop, record-inside}
-use Rattle.event_file.proofs.Cursor.{stepped-end, stepped-at}
+use Rattle.rules.specs.Steps.{collected, eventsIn}
+use Rattle.rules.proofs.Basics.Views.{Two, yes-true, no-false, two}
+use Rattle.rules.proofs.Files.Reading.{eventsAfter-drop, eventsAfter-end, record-inside}
+use Rattle.rules.proofs.Files.Stepping.{stepped-end, stepped-at}
 
 -- what a step's answer collects, with a way to go on from any offset
 abbrev goesOn : (ℕ → Option (List Event)) → Stepped → Option (List Event)
@@ -24,10 +25,6 @@ at-record :
 at-record further none at next left h = refl
 at-record further (some e) at next left h = ap (λ (l : Option (List Event)). joined (some e) l) (h e refl)
 
-at-end : (file : List ℕ) (at : ℕ) → length file ≤ at → some [] ≡ eventsAfter 0 (drop at file)
-unfolding eventsAfter
-at-end file at h = rw (drop-of-length-le file h)
-
 -- one step, where going on from every later offset collects what is left there
 one-step :
     (further : ℕ → Option (List Event)) (file : List ℕ) (at : ℕ) → 5 ≤ at → at ≤ length file →
@@ -35,7 +32,7 @@ one-step :
     Two (eqb at (length file)) → goesOn further (stepped file at) ≡ eventsAfter 0 (drop at file)
 one-step further file at low inside go-on (yes-true same) =
     let e : at ≡ length file = eqb-true _ _ same in
-    ap (goesOn further) (sym (stepped-end file at low e)) ∙ at-end file at (omega arith)
+    ap (goesOn further) (sym (stepped-end file at low e)) ∙ sym (eventsAfter-end file at (omega arith))
 one-step further file at low inside go-on (no-false other) =
     let apart : at ≡ length file → ⊥ = eqb-false _ _ other in
     let h : at < length file = omega arith in

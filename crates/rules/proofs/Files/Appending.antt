@@ -6,11 +6,11 @@ use native.Mathlib.Omega.{arith}
 use lib.ListN.{length, take, drop, length-append, length-drop}
 use lib.Seq.{sets, sets-eq, take-append-seam, drop-append-add, drop-drop, append-snoc}
 use borrow.Author.Tests.{le-ltb}
 use Rattle.rules.specs.declared.Event.{Event}
 use Rattle.rules.specs.EventFile.{recordOf, recordsOf, fourBytes, fileOf, fileRefusal, appendRefusal, Written, started, appended}
-use Rattle.event_file.specs.Steps.{appendedAll, writtenAll}
-use Rattle.event_file.proofs.WrittenThenRead.{length-fileOf, accepted-back}
-use Rattle.event_file.proofs.Writing.{started-accepted, appended-accepted, refused-room}
+use Rattle.rules.specs.Steps.{appendedAll, writtenAll}
+use Rattle.rules.proofs.Files.WrittenThenRead.{length-fileOf, accepted-back}
+use Rattle.rules.proofs.Files.Writing.{started-accepted, appended-accepted, refused-room}
 
 -- the buffer holds the file of these events, and after it what it held before
 pub record Holds (before : List ℕ) (es : List Event) (w : Written) : Type 0 where

@@ -1,2 +1,0 @@
--- What a turn of a file hands back.
-pub mod Turning
