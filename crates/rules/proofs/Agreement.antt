@@ -10,7 +10,7 @@ use Rattle.rules.specs.Sound.{sound}
 use Rattle.rules.specs.Refusals.{refusal}
 use Rattle.rules.specs.Events.{Answered, midway, dispatchAfter, dispatch, offer}
 use Rattle.rules.specs.Plain.{PlainAnswered, update, plainOfferAfter, plainOffer}
-use Rattle.rules.specs.Lists.{fits}
+use Rattle.rules.specs.EventFile.{fits}
 use Rattle.rules.proofs.Soundness.Places.{Sound, of-sound}
 use Rattle.rules.proofs.Events.Hands.{linkLimit, Handed, accepts}
 use Rattle.rules.proofs.Events.CreateEvent.{create-handed}

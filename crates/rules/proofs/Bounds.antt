@@ -21,8 +21,8 @@ use Rattle.rules.specs.Walk.{Link, noLinks}
 use Rattle.rules.specs.Refusals.{_gives_else_, refusal}
 use Rattle.rules.specs.Events.{Answered, dispatchAfter, dispatch, offerIf, offer}
 use Rattle.rules.specs.Sound.{sound}
-use Rattle.rules.specs.Lists.{fits, allFit, run}
-use Rattle.rules.specs.EventFile.{headRefusal, fileRefusalAfter, fileRefusal}
+use Rattle.rules.specs.Lists.{run}
+use Rattle.rules.specs.EventFile.{headRefusal, fileRefusalAfter, fileRefusal, fits, allFit}
 use Rattle.rules.proofs.Basics.Views.{and-true-left, and-true-right}
 use Rattle.rules.proofs.Basics.Members.{member-here, member-there, distinct-head, distinct-tail, distinct-cons, each, image-of}
 use Rattle.rules.proofs.Basics.Members.{map-distinct}

@@ -11,8 +11,8 @@ use Rattle.rules.specs.Sound.{shaped, placed, settled, sound}
 use Rattle.rules.specs.Events.{releases, create, withGiven, give, callDonates, callHelps, call, reply, block, wake, depletes}
 use Rattle.rules.specs.Events.{spends, charge, abortAfter, abort, dispatch, offer}
 use Rattle.rules.specs.Plain.{judgeFrom, judge, plainOffer}
-use Rattle.rules.specs.Lists.{run, after, plainRun, allFit}
-use Rattle.rules.specs.EventFile.{recordsOf, fileOf, recordAt, eventsAfter, fileRefusal, eventsOf, opened, stepped, started}
+use Rattle.rules.specs.Lists.{run, after, plainRun}
+use Rattle.rules.specs.EventFile.{recordsOf, fileOf, recordAt, eventsAfter, fileRefusal, eventsOf, opened, stepped, started, allFit}
 use Rattle.rules.specs.EventFile.{appendRefusal, appended}
 use Rattle.rules.specs.Steps.{eventsIn, appendedAll}
 use Rattle.rules.specs.Key.{bytes, digits, decimal, columns, line, lines, fileLine, key, shortLines, shortKey, plainLines, plainKey}

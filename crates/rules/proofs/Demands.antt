@@ -10,8 +10,8 @@ use Rattle.rules.specs.Sound.{sound}
 use Rattle.rules.specs.Refusals.{refusal}
 use Rattle.rules.specs.Events.{Answered, dispatchAfter, dispatch, offerIf, offer}
 use Rattle.rules.specs.Plain.{PlainAnswered, emptyPlain, plainOffer}
-use Rattle.rules.specs.Lists.{fits, allFit, run, plainRun, Seen, seen, plainSeen, linksOf}
-use Rattle.rules.specs.EventFile.{Bytes, fileRefusal, eventsOf}
+use Rattle.rules.specs.Lists.{run, plainRun, Seen, seen, plainSeen, linksOf}
+use Rattle.rules.specs.EventFile.{Bytes, fileRefusal, eventsOf, fits, allFit}
 use Rattle.rules.specs.Key.{bytes, columns, shortLines, shortKeyAfter, shortKey, plainLines, plainKeyAfter, plainKey}
 use Rattle.rules.proofs.Computing.{computing}
 use Rattle.rules.proofs.Basics.Views.{and-true-left, and-true-right}

@@ -1,7 +1,7 @@
 -- Document 01, "Event file and key" and "Reading a file": the event file, its reader and its writer.
 use Prim.Native.Nat.{ℕ, zero, suc, _+_, _-_, _*_, _/_, _%_, _<_}
 use mathlib.Core.List.{List, [], _∷_, _++_}
-use mathlib.Core.Bool.{Bool, true, false, cond, not, _||_}
+use mathlib.Core.Bool.{Bool, true, false, cond, not, _&&_, _||_}
 use mathlib.Core.Option.{Option, none, some}
 use lib.ListN.{length, getD, take, drop}
 use lib.Seq.{sets}
@@ -10,6 +10,7 @@ use Rattle.rules.specs.declared.Role.{Role}
 use Rattle.rules.specs.declared.Role.the-variants.{Client, Server}
 use Rattle.rules.specs.declared.Event.{Event}
 use Rattle.rules.specs.declared.Event.the-variants.{Create, Give, Call, Reply, Block, Wake, Charge, Abort}
+use Rattle.rules.specs.Tests.{all}
 use Rattle.rules.specs.Refusals.{_gives_else_}
 
 -- what a file is given as: each element is a byte
@@ -57,6 +58,18 @@ operandsOf (Abort n) = n ∷ []
 -- "A record: one length byte counting what follows it, a kind byte, operands."
 abbrev pub recordOf : Event → List ℕ
 recordOf e = suc (length (operandsOf e)) ∷ kindOf e ∷ operandsOf e
+
+-- "An event handed to the writer holds only what these operands can hold": a byte each. An event of the code and an event read from
+-- bytes always do.
+abbrev pub byte : ℕ → Bool
+byte n = leb n 255
+
+abbrev pub fits : Event → Bool
+fits e = all byte (operandsOf e)
+
+unfoldable pub allFit : List Event → Bool
+allFit [] = true
+allFit (e ∷ es) = fits e && allFit es
 
 unfoldable pub recordsOf : List Event → List ℕ
 recordsOf [] = []

@@ -1,17 +1,15 @@
 -- Lists of events, run on either machine: each event gets the machine that the last one handed back.
 use Prim.Native.Nat.{ℕ}
 use mathlib.Core.List.{List, [], _∷_, map}
-use mathlib.Core.Bool.{Bool, true, _&&_}
-use lib.Dec.{leb}
 use Rattle.rules.specs.declared.Thread.{Thread}
 use Rattle.rules.specs.declared.Running.{Running}
 use Rattle.rules.specs.declared.Event.{Event}
-use Rattle.rules.specs.Tests.{all}
 use Rattle.rules.specs.State.{State, Plain}
 use Rattle.rules.specs.Walk.{Link, linkOf}
 use Rattle.rules.specs.Events.{Answered, offer}
 use Rattle.rules.specs.Plain.{PlainAnswered, plainOffer}
-use Rattle.rules.specs.EventFile.{operandsOf}
+pub use Rattle.rules.specs.EventFile.{fits}
+unfoldable pub use Rattle.rules.specs.EventFile.{allFit}
 
 -- the answers, each with the machine after its event
 unfoldable pub run : List Event → State → List Answered
@@ -41,15 +39,3 @@ seen a = record { refusal = a .refusal; running = a .state .running; links = lin
 
 abbrev pub plainSeen : PlainAnswered → Seen
 plainSeen a = record { refusal = a .refusal; running = a .plain .running; links = linksOf (a .plain .threads) }
-
--- "An event handed to the writer holds only what these operands can hold": a byte each. An event of the code and an event read from
--- bytes always do.
-abbrev pub byte : ℕ → Bool
-byte n = leb n 255
-
-abbrev pub fits : Event → Bool
-fits e = all byte (operandsOf e)
-
-unfoldable pub allFit : List Event → Bool
-allFit [] = true
-allFit (e ∷ es) = fits e && allFit es

@@ -22,7 +22,7 @@ use Rattle.rules.specs.Timeslices.{given, last}
 use Rattle.rules.specs.Sound.{inRange}
 use Rattle.rules.specs.Refusals.{refusal, aboveLimit, ownsOne}
 use Rattle.rules.specs.Events.{aboveRunning, overtakes, withGiven, give}
-use Rattle.rules.specs.Lists.{fits}
+use Rattle.rules.specs.EventFile.{fits}
 use Rattle.rules.specs.Plain.{update}
 use Rattle.rules.proofs.Basics.Views.{clash, or-false-left}
 use Rattle.rules.proofs.Basics.Members.{some-none}

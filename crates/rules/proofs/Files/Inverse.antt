@@ -8,8 +8,7 @@ use native.Mathlib.Omega.{arith}
 use lib.ListN.{length, take, drop}
 use lib.Seq.{take-append-seam, drop-append-seam}
 use Rattle.rules.specs.declared.Event.{Event}
-use Rattle.rules.specs.Lists.{fits, allFit}
-use Rattle.rules.specs.EventFile.{Bytes, fileOf, recordsIn, orNone, fileRefusal, eventsOf, opened, event, stepped}
+use Rattle.rules.specs.EventFile.{Bytes, fileOf, recordsIn, orNone, fileRefusal, eventsOf, opened, event, stepped, fits, allFit}
 use Rattle.rules.specs.EventFile.{Written, started, appended}
 use Rattle.rules.specs.Steps.{eventsFrom, unlessRefused, appendedAll, writtenAll}
 use Rattle.rules.proofs.Files.Records.{records-length}

@@ -12,9 +12,8 @@ use borrow.Author.Tests.{le-leb, leb-true, eqb-true}
 use Rattle.rules.specs.declared.Event.{Event}
 use Rattle.rules.specs.declared.Event.the-variants.{Call, Reply, Block, Wake, Charge, Abort}
 use Rattle.rules.specs.Tests.{all}
-use Rattle.rules.specs.Lists.{byte, fits, allFit}
 use Rattle.rules.specs.EventFile.{Bytes, wordOf, highByte, lowByte, kindOf, operandsOf, recordOf, recordsOf, fourBytes, fileOf}
-use Rattle.rules.specs.EventFile.{noOperand, oneByte, oneWord, createFrom, giveFrom, eventOf, bodyOf, recordAt}
+use Rattle.rules.specs.EventFile.{noOperand, oneByte, oneWord, createFrom, giveFrom, eventOf, bodyOf, recordAt, byte, fits, allFit}
 use Rattle.rules.specs.EventFile.{joined, eventsAfter, recordsIn}
 use Rattle.rules.proofs.Basics.Views.{Two, yes-true, no-false, two, and-true-both}
 use Rattle.rules.proofs.Basics.Members.{all-cons}

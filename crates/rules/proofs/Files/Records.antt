@@ -8,8 +8,7 @@ use lib.ListN.{length, length-append}
 use borrow.Author.Tests.{leb-true}
 use Rattle.rules.specs.declared.Event.{Event}
 use Rattle.rules.specs.declared.Event.the-variants.{Give}
-use Rattle.rules.specs.EventFile.{highByte, recordOf, recordsOf}
-use Rattle.rules.specs.Lists.{byte, fits}
+use Rattle.rules.specs.EventFile.{highByte, recordOf, recordsOf, byte, fits}
 use Rattle.rules.proofs.Basics.Members.{all-head, all-tail}
 
 -- a record has two bytes or more
