@@ -11,7 +11,7 @@ use Rattle.rules.specs.declared.Hold.{Hold}
 use Rattle.rules.specs.declared.Hold.the-variants.{Ready}
 use Rattle.rules.specs.declared.Thread.{Thread}
 use Rattle.rules.specs.declared.Timeslice.{Timeslice}
-use Rattle.rules.specs.State.{Slice, freeThread, holdAt, ownerAt, priorityAt, sliceAt, placeAt}
+use Rattle.rules.specs.State.{Slice, freeThread, threadAt, holdAt, ownerAt, priorityAt, sliceAt, placeAt}
 use Rattle.rules.proofs.Basics.Views.{Two, yes-true, no-false, two}
 use Rattle.tables.specs.Turning.{entriesOf}
 use Rattle.tables.specs.Timeslices.{sliceOf, placeOf, freeTimeslice}
@@ -68,12 +68,19 @@ pub owns-none : (ts : List Timeslice) (k t owner : ℕ) → length ts ≡ 128 �
 owns-none ts k t owner full e out is = owns ts k t owner e
     (is ∙ sym (ap (λ (x : Timeslice). x .owner) (past ts k k freeTimeslice full refl out)))
 
--- the hold of thread n likewise
-pub held : (ts : List Thread) (k n : ℕ) (h : Hold) → k ≡ n → h ≡ getD ts k freeThread .hold → h ≡ holdAt ts n
-held ts k n h e is = is ∙ ap (holdAt ts) e
+-- what thread n holds likewise
+pub thread-read : {A : Type 0} (f : Thread → A) (ts : List Thread) (k n : ℕ) (v : A) → k ≡ n → v ≡ f (threadAt ts k) → v ≡ f (threadAt ts n)
+thread-read f ts k n v e is = is ∙ ap (λ (j : ℕ). f (threadAt ts j)) e
+
+pub thread-none : {A : Type 0} (f : Thread → A) (ts : List Thread) (k n : ℕ) (v : A) → length ts ≡ 128 → k ≡ n → 128 ≤ k → v ≡ f freeThread
+    → v ≡ f (threadAt ts n)
+thread-none f ts k n v full e out is = thread-read f ts k n v e (is ∙ sym (ap f (past ts k k freeThread full refl out)))
+
+pub held : (ts : List Thread) (k n : ℕ) (h : Hold) → k ≡ n → h ≡ holdAt ts k → h ≡ holdAt ts n
+held ts k n h e is = thread-read (λ (t : Thread). t .hold) ts k n h e is
 
 pub held-none : (ts : List Thread) (k n : ℕ) (h : Hold) → length ts ≡ 128 → k ≡ n → 128 ≤ k → h ≡ Ready → h ≡ holdAt ts n
-held-none ts k n h full e out is = held ts k n h e (is ∙ sym (ap (λ (t : Thread). t .hold) (past ts k k freeThread full refl out)))
+held-none ts k n h full e out is = thread-none (λ (t : Thread). t .hold) ts k n h full e out is
 
 -- the priority of timeslice t likewise
 pub priority-is : (ts : List Timeslice) (k t p : ℕ) → k ≡ t → p ≡ getD ts k freeTimeslice .priority → p ≡ priorityAt (map sliceOf ts) t

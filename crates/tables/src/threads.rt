@@ -1,7 +1,6 @@
 // Document 01, "Events" and "Release and choice": what they do to the threads.
 ghost use mathlib.Core.Path.{_≡_};
 ghost use Rattle.rules.specs.Threads.{setHold, setService, donate, replied as repliedOf, freeCaller, aborted as abortedOf, orphanServer};
-use crate::lookup::thread_at;
 use crate::numbers::index;
 use rules::Hold;
 use rules::Service;
@@ -55,8 +54,12 @@ pub fn freed(threads: [Thread; 128], service: Service) -> [Thread; 128]
 pub fn replied(threads: [Thread; 128], server: u8) -> [Thread; 128]
     ensures { λ r. ⌜ r ≡ repliedOf server threads ⌝ }
 {
-    let thread = thread_at(threads, server);
-    let service = thread.service;
+    let k = index(server);
+    let mut service = Service::Nobody;
+    if k < 128 {
+        let t = threads[k];
+        service = t.service;
+    }
     let ready = freed(threads, service);
     let idle = with_hold(ready, server, Hold::Idle);
     with_service(idle, server, Service::Nobody)
@@ -78,8 +81,12 @@ pub fn orphaned(threads: [Thread; 128], hold: Hold) -> [Thread; 128]
 pub fn aborted(threads: [Thread; 128], n: u8) -> [Thread; 128]
     ensures { λ r. ⌜ r ≡ abortedOf n threads ⌝ }
 {
-    let thread = thread_at(threads, n);
-    let hold = thread.hold;
+    let k = index(n);
+    let mut hold = Hold::Ready;
+    if k < 128 {
+        let t = threads[k];
+        hold = t.hold;
+    }
     let left = orphaned(threads, hold);
     with_hold(left, n, Hold::Ready)
 }

@@ -2,7 +2,9 @@
 // place after the last byte that it wrote, where the next one goes on. What has no room is cut off, so that none of them asks for room;
 // `roomy` in proofs/Puts.antt says what is in the buffer where there is room.
 ghost use mathlib.Core.List.{[], _∷_};
-ghost use Rattle.rules.specs.Key.{decimal, fileLine};
+ghost use mathlib.Core.Path.{_≡_};
+ghost use Prim.Native.Nat.{_%_};
+ghost use Rattle.rules.specs.Key.{digit, decimal, fileLine};
 ghost use Rattle.text.specs.Put.{Put};
 
 mod columns;
@@ -31,16 +33,28 @@ pub fn put_bytes(out: &mut [u8], at: usize, text: &[u8]) -> usize
     place
 }
 
-// The last digit comes after the others.
+// The last digit of a number.
+fn last_digit(n: u64) -> u8
+    ensures { λ r. ⌜ r ≡ digit (n % 10) ⌝ }
+{
+    48 + ((n % 10) as u8)
+}
+
+// The last two digits come after the others: half as many calls as for one digit at a time.
 fn put_digits(out: &mut [u8], at: usize, n: u64) -> usize
     ensures { λ r. ⌜ Put (now (out .entry)) (now (out .exit)) at r (decimal n) ⌝ }
 {
-    let digit = 48 + ((n % 10) as u8);
     if n < 10 {
-        return put_byte(out, at, digit);
+        return put_byte(out, at, last_digit(n));
     }
-    let last = put_digits(out, at, n / 10);
-    put_byte(out, last, digit)
+    let tens = n / 10;
+    if tens < 10 {
+        let second = put_byte(out, at, last_digit(tens));
+        return put_byte(out, second, last_digit(n));
+    }
+    let first = put_digits(out, at, tens / 10);
+    let second = put_byte(out, first, last_digit(tens));
+    put_byte(out, second, last_digit(n))
 }
 
 // Most numbers of a key have one digit: those need no call.
@@ -48,7 +62,7 @@ pub fn put_decimal(out: &mut [u8], at: usize, n: u64) -> usize
     ensures { λ r. ⌜ Put (now (out .entry)) (now (out .exit)) at r (decimal n) ⌝ }
 {
     if n < 10 {
-        return put_byte(out, at, 48 + ((n % 10) as u8));
+        return put_byte(out, at, last_digit(n));
     }
     put_digits(out, at, n)
 }

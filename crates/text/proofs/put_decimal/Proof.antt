@@ -1,16 +1,11 @@
 -- A number below ten is its one digit.
-use mathlib.Core.Path.{sym}
-use Rattle.text.proofs.Puts.{reading}
-use Rattle.text.proofs.Decimals.{one-digit}
+use Rattle.text.proofs.Decimals.{one-put}
 use borrow.Author.Needs.{needs}
 use Rattle.text.proofs.put_decimal.Statement.{statement}
 use Rattle.text.proofs.put_decimal.Tie as tie
 
-cast-put-byte : tie.Need-cast-put-byte
-cast-put-byte c = search needs
-
-add-put-byte : tie.Need-add-put-byte
-add-put-byte c = search needs
+last-digit-requires : tie.Need-last-digit-requires
+last-digit-requires c κs = tt
 
 put-byte-requires : tie.Need-put-byte-requires
 put-byte-requires c κs = tt
@@ -20,8 +15,9 @@ same-length c = search needs
 
 returns : tie.Need-returns
 returns c =
-    let branch = c .before .before .before .before in
-    reading (sym (one-digit (branch .before .before .args .n) (branch .if1 .taken))) (c .before .before .put-byte .ensures)
+    let small = c .before .before .before .before .before in
+    one-put (small .before .before .args .n) (small .if1 .taken) (c .before .before .before .last-digit .ensures)
+    (c .before .before .put-byte .ensures)
 
 put-digits-requires : tie.Need-put-digits-requires
 put-digits-requires c κs = tt
@@ -36,8 +32,7 @@ pub put-decimal-spec : {M : Type 1} → statement M
 put-decimal-spec =
     tie.close
     (tie.spec
-    cast-put-byte
-    add-put-byte
+    last-digit-requires
     put-byte-requires
     same-length
     returns
