@@ -3,7 +3,7 @@ use Prim.Native.Nat.{ℕ, zero, suc, _+_, _/_, _%_, _≤_, _<_}
 use native.Mathlib.Omega.{arith}
 use mathlib.Core.Path.{_≡_, refl, sym, ap, _∙_}
 use mathlib.Core.Bool.{Bool, true, false}
-use mathlib.Core.List.{List, [], _∷_, _++_}
+use mathlib.Core.List.{List, [], _∷_, _++_, append-assoc}
 use lib.Dec.{ltb}
 use borrow.Author.Tests.{lt-ltb, le-ltb, ltb-false}
 use Rattle.rules.specs.Key.{digit, digits, decimal}
@@ -43,3 +43,13 @@ pub next-put : {before between after : List ℕ} {at to end b : ℕ} (n : ℕ) �
     → b ≡ digit (n % 10) → Put between after to end (b ∷ []) → Put before after at end (decimal n)
 next-put n large front is p =
     reading (ap (λ (d : ℕ). decimal (n / 10) ++ (d ∷ [])) is ∙ sym (last-digit n large)) (front then p)
+
+-- the last two digits after the others
+pub pair-put : {before between after : List ℕ} {at to end : ℕ} (n : ℕ) → 100 ≤ n → Put before between at to (decimal (n / 100))
+    → Put between after to end (digit (n / 10 % 10) ∷ digit (n % 10) ∷ []) → Put before after at end (decimal n)
+pair-put n large front p =
+    let hundreds : n / 10 / 10 ≡ n / 100 = omega arith in
+    let tens : decimal (n / 10) ≡ decimal (n / 100) ++ (digit (n / 10 % 10) ∷ []) = last-digit (n / 10) (omega arith) ∙ rw hundreds refl in
+    let whole : decimal n ≡ decimal (n / 100) ++ (digit (n / 10 % 10) ∷ digit (n % 10) ∷ []) =
+    last-digit n (omega arith) ∙ rw (tens, append-assoc) refl in
+    reading (sym whole) (front then p)

@@ -3,7 +3,7 @@
 // `roomy` in proofs/Puts.antt says what is in the buffer where there is room.
 ghost use mathlib.Core.List.{[], _∷_};
 ghost use mathlib.Core.Path.{_≡_};
-ghost use Prim.Native.Nat.{_%_};
+ghost use Prim.Native.Nat.{_/_, _%_, _<_};
 ghost use Rattle.rules.specs.Key.{digit, decimal, fileLine};
 ghost use Rattle.text.specs.Put.{Put};
 
@@ -40,29 +40,59 @@ fn last_digit(n: u64) -> u8
     48 + ((n % 10) as u8)
 }
 
-// The last two digits come after the others: half as many calls as for one digit at a time.
-fn put_digits(out: &mut [u8], at: usize, n: u64) -> usize
+// One digit or two.
+fn put_two_digits(out: &mut [u8], at: usize, n: u64) -> usize
+    requires { ⌜ n < 100 ⌝ }
     ensures { λ r. ⌜ Put (now (out .entry)) (now (out .exit)) at r (decimal n) ⌝ }
 {
     if n < 10 {
         return put_byte(out, at, last_digit(n));
     }
-    let tens = n / 10;
-    if tens < 10 {
-        let second = put_byte(out, at, last_digit(tens));
-        return put_byte(out, second, last_digit(n));
-    }
-    let first = put_digits(out, at, tens / 10);
-    let second = put_byte(out, first, last_digit(tens));
+    let second = put_byte(out, at, last_digit(n / 10));
     put_byte(out, second, last_digit(n))
 }
 
-// Most numbers of a key have one digit: those need no call.
+// The last two digits.
+fn put_pair(out: &mut [u8], at: usize, n: u64) -> usize
+    ensures { λ r. ⌜ Put (now (out .entry)) (now (out .exit)) at r (digit (n / 10 % 10) ∷ digit (n % 10) ∷ []) ⌝ }
+{
+    let second = put_byte(out, at, last_digit(n / 10));
+    put_byte(out, second, last_digit(n))
+}
+
+fn put_four_digits(out: &mut [u8], at: usize, n: u64) -> usize
+    requires { ⌜ n < 10000 ⌝ }
+    ensures { λ r. ⌜ Put (now (out .entry)) (now (out .exit)) at r (decimal n) ⌝ }
+{
+    if n < 100 {
+        return put_two_digits(out, at, n);
+    }
+    let third = put_two_digits(out, at, n / 100);
+    put_pair(out, third, n)
+}
+
+// As many pairs as the number has.
+fn put_digits(out: &mut [u8], at: usize, n: u64) -> usize
+    ensures { λ r. ⌜ Put (now (out .entry)) (now (out .exit)) at r (decimal n) ⌝ }
+{
+    if n < 10000 {
+        return put_four_digits(out, at, n);
+    }
+    let last = put_digits(out, at, n / 100);
+    put_pair(out, last, n)
+}
+
+// The numbers of a key are small, an event's at most 32,766: they need no recursion.
 pub fn put_decimal(out: &mut [u8], at: usize, n: u64) -> usize
     ensures { λ r. ⌜ Put (now (out .entry)) (now (out .exit)) at r (decimal n) ⌝ }
 {
-    if n < 10 {
-        return put_byte(out, at, last_digit(n));
+    if n < 10000 {
+        return put_four_digits(out, at, n);
+    }
+    let rest = n / 100;
+    if rest < 10000 {
+        let last = put_four_digits(out, at, rest);
+        return put_pair(out, last, n);
     }
     put_digits(out, at, n)
 }
