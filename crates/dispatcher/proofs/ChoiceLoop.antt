@@ -38,11 +38,12 @@ use Rattle.tables.specs.Verdicts.{verdictOf}
 use Rattle.dispatcher.specs.Choosing.{asideOf, freedBy, Choosable, before, Chosen}
 use Rattle.tables.proofs.ends.Verdict.{the-type}
 use Rattle.tables.proofs.Lookups.{map-set}
-use Rattle.tables.proofs.Walks.{walk-links}
+use Rattle.rules.proofs.Bounds.{live-most}
+use Rattle.rules.proofs.Links.Chains.{walk-links}
 use Rattle.tables.proofs.ReleaseLoop.{release-is}
 use Rattle.tables.proofs.Searches.{top-is}
 use Rattle.tables.proofs.Recodings.{Freed, park-coded}
-use Rattle.tables.proofs.Lives.{live-donate, length-donate}
+use Rattle.rules.proofs.Tables.Writes.{donate-relabels}
 use Rattle.dispatcher.proofs.Stored.{live-is, turns-fit, stored-with}
 
 -- what a look finds: the topmost timeslice in Queue, its chain and what its end says
@@ -188,8 +189,8 @@ module _ (m : Machine) (live : ℕ) (order codes heights : List ℕ) (r : Coded 
       rw (told, is, kept, e)
       (record {
         others = refl;
-        lives = live-donate (c .helper) (c .end) (m .threads);
-        size = length-donate (c .helper) (c .end) (m .threads);
+        lives = donate-relabels (m .threads) (c .helper) (c .end) .count;
+        size = donate-relabels (m .threads) (c .helper) (c .end) .size;
         many = refl;
         coded = r;
         next = λ go links. refl;
@@ -335,7 +336,7 @@ module _ (first : Machine) (start live lives : ℕ) (order : List ℕ) (m : Mach
       → Choosing first start live lives order n k (looks - 1) after heights
   again n after k t c v s o tn ln lv lths lts r left e l shows′ step =
       let one : looks ≡ suc (looks - 1) = omega arith in
-      let most : c .links ≤ 128 = rw (l .chain) (walk-links (m .threads) (ownerAt (map sliceOf (m .timeslices)) t) (w .threads)) in
+      let most : c .links ≤ liveThreads (m .threads) = rw (l .chain) (walk-links (m .threads) (ownerAt (map sliceOf (m .timeslices)) t)) in
       let rest′ : chooseFrom (suc (looks - 1)) (record { state = stateOf m live order; links = links }) ≡ choose (before first start) =
       rw one at (w .rest) in
       record {
@@ -348,7 +349,7 @@ module _ (first : Machine) (start live lives : ℕ) (order : List ℕ) (m : Mach
         threads = lths ∙ w .threads;
         timeslices = lts ∙ w .timeslices;
         coded = r;
-        few = omega (arith, w .few);
+        few = omega (arith, w .few, live-most (m .threads), w .threads);
         rest = rw (e, shows′) (sym step ∙ looks-at (looks - 1) links (stateOf m live order) t c v l ∙ rest′);
       }
 

@@ -6,7 +6,6 @@ pub mod Settles
 pub mod Answering
 pub mod ThreadChanges
 pub mod Current
-pub mod Pigeonhole
 pub mod TimesliceChanges
 pub mod Offering
 pub mod OneForm

@@ -9,11 +9,9 @@ use types.Run.{OneOf}
 use denote.Enum.Declared.{tagOf}
 use Rattle.rules.proofs.Hold.{the-type}
 use Rattle.rules.specs.declared.Hold.{Hold}
-use Rattle.tables.proofs.Lives.{live-most}
 use Rattle.rules.specs.declared.Hold.the-variants.{Ready, Idle, Blocked, Calling, Helping}
 use Rattle.rules.specs.declared.Thread.{Thread}
 use Rattle.rules.specs.declared.Chain.{Chain}
-use lib.ListN.{length}
 use Rattle.rules.specs.State.{holdAt, liveThreads}
 use Rattle.rules.specs.Walk.{walkFrom, walk, follow, noLinks, donated, helped, ended, loop}
 
@@ -66,33 +64,3 @@ start ts live from =
 pub walks : (ts : List Thread) (live from : ℕ) (c : Chain) → live ≡ liveThreads ts → c ≡ walkFrom live ts from noLinks → c ≡ walk ts from
 unfolding walk
 walks ts live from c counted is = is ∙ ap (λ (k : ℕ). walkFrom k ts from noLinks) counted
-
--- a walk follows at most L links, and counts no more donations than links
-record Bounded (most : ℕ) (c : Chain) : Type 0 where
-  pub links : c .links ≤ most
-  pub count : c .count ≤ c .links
-
-followed : (go : ℕ → Chain → Chain) (n : ℕ) (c : Chain) (k : ℕ) (h : Hold) → c .count ≤ c .links
-    → ((m : ℕ) (d : Chain) → d .count ≤ d .links → Bounded (d .links + k) (go m d)) → Bounded (c .links + suc k) (follow go n c h)
-followed go n c k Ready e ih = record { links = omega arith; count = e }
-followed go n c k Idle e ih = record { links = omega arith; count = e }
-followed go n c k Blocked e ih = record { links = omega arith; count = e }
-followed go n c k (Calling s) e ih =
-    let b = ih s (donated c) (omega arith) in record { links = omega (arith, b .links); count = b .count }
-followed go n c k (Helping s) e ih =
-    let b = ih s (helped n c) (omega arith) in record { links = omega (arith, b .links); count = b .count }
-
-bounded : (k : ℕ) (ts : List Thread) (n : ℕ) (c : Chain) → c .count ≤ c .links → Bounded (c .links + k) (walkFrom k ts n c)
-unfolding walkFrom
-bounded zero ts n c e = record { links = omega arith; count = omega arith }
-bounded (suc k) ts n c e = followed (λ m d. walkFrom k ts m d) n c k (holdAt ts n) e (λ m d. bounded k ts m d)
-
-pub walk-links : (ts : List Thread) (n : ℕ) → length ts ≡ 128 → walk ts n .links ≤ 128
-unfolding walk
-walk-links ts n full = omega (arith, bounded (liveThreads ts) ts n noLinks (omega arith) .links, live-most ts)
-
-pub walk-count : (ts : List Thread) (n : ℕ) → length ts ≡ 128 → walk ts n .count ≤ 128
-unfolding walk
-walk-count ts n full =
-    let b = bounded (liveThreads ts) ts n noLinks (omega arith) in
-    omega (arith, b .links, b .count, live-most ts)

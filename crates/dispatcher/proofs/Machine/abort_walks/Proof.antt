@@ -13,8 +13,10 @@ use Rattle.rules.specs.Release.{onThread, stalled}
 use Rattle.rules.specs.Events.{releaseAbort}
 use Rattle.tables.proofs.Lookups.{held, held-none}
 use Rattle.rules.specs.Walk.{walk}
-use Rattle.tables.proofs.Walks.{walk-links, walks}
-use Rattle.tables.proofs.Lives.{live-aborted}
+use Rattle.rules.proofs.Bounds.{live-most}
+use Rattle.rules.proofs.Links.Chains.{walk-links}
+use Rattle.tables.proofs.Walks.{walks}
+use Rattle.rules.proofs.Tables.Writes.{aborted-relabels}
 use Rattle.dispatcher.proofs.Stored.{live-is, turns-fit, stored-with}
 use Rattle.dispatcher.proofs.TimesliceChanges.{movedTo, released-shown, aborts}
 use Rattle.dispatcher.proofs.ThreadChanges.{threads-shown}
@@ -36,7 +38,7 @@ ends c =
 counted : (c : tie.After-aborted) → c .before .before .before .before .before .args .t1 .«live_threads» ≡ liveThreads (c .aborted .result)
 counted c =
     let start = c .before .before .before .before .before in
-    live-is (start .args .t1) (start .pre .exact) ∙ sym (live-aborted (start .args .n) (start .args .t1 .threads))
+    live-is (start .args .t1) (start .pre .exact) ∙ sym (aborted-relabels (start .args .t1 .threads) (start .args .n) .count)
     ∙ sym (ap liveThreads (c .aborted .ensures))
 
 walked : (c : tie.After-aborted) → let start = c .before .before .before .before .before in
@@ -49,7 +51,9 @@ few : (c : tie.After-aborted) → c .before .before .before .walk .result .links
 few c =
     let start = c .before .before .before .before .before in
     let full : length (start .args .t1 .threads) ≡ 128 = simp length-map at (start .good .0 .1 .1 .0 .1 .0 .1) in
-    rw (walked c) (walk-links (start .args .t1 .threads) (start .args .n) full)
+    let most : c .before .before .before .walk .result .links ≤ liveThreads (start .args .t1 .threads) =
+    rw (walked c) (walk-links (start .args .t1 .threads) (start .args .n)) in
+    omega (arith, most, live-most (start .args .t1 .threads), full)
 
 walk-requires : tie.Need-walk-requires
 walk-requires c κs = tt

@@ -2,7 +2,7 @@
 use native.Mathlib.Omega.{arith}
 use Rattle.rules.specs.Events.{callDonates, releases}
 use Rattle.dispatcher.proofs.Answering.{said-of}
-use Rattle.tables.proofs.Lives.{live-donate}
+use Rattle.rules.proofs.Tables.Writes.{donate-relabels}
 use Rattle.dispatcher.proofs.ThreadChanges.{choosable, runningTo, running-shown, running-exact}
 use borrow.Author.Needs.{needs}
 use Rattle.dispatcher.proofs.Machine.call_donates.Statement.{statement}
@@ -18,7 +18,7 @@ waiters-released-requires : tie.Need-waiters-released-requires
 waiters-released-requires c κs =
     let start = c .before .before .before .before .before in
     choosable _ (running-exact (start .args .self) _ _ _ (start .pre .0 .exact) (c .before .before .before .donated .ensures)
-    (live-donate _ _ _))
+    (donate-relabels _ _ _ .count))
 
 returns : tie.Need-returns
 unfolding callDonates

@@ -1,7 +1,7 @@
 -- One hold changes, which keeps L, and a choice follows.
 use Rattle.rules.specs.Events.{callHelps}
 use Rattle.dispatcher.proofs.Answering.{chosen}
-use Rattle.tables.proofs.Lives.{live-hold}
+use Rattle.rules.proofs.Tables.Writes.{hold-relabels}
 use Rattle.dispatcher.proofs.ThreadChanges.{choosable, threadsTo, threads-shown, threads-exact}
 use borrow.Author.Needs.{needs}
 use Rattle.dispatcher.proofs.Machine.call_helps.Statement.{statement}
@@ -13,7 +13,7 @@ with-hold-requires c κs = search needs
 choose-requires : tie.Need-choose-requires
 choose-requires c κs =
     let start = c .before .before in
-    choosable _ (threads-exact (start .args .self) _ _ (start .pre .exact) (c .with-hold .ensures) (live-hold _ _ _))
+    choosable _ (threads-exact (start .args .self) _ _ (start .pre .exact) (c .with-hold .ensures) (hold-relabels _ _ _ .count))
 
 returns : tie.Need-returns
 unfolding callHelps

@@ -8,7 +8,7 @@ use Rattle.rules.specs.Events.{block, choosesIn}
 use Rattle.dispatcher.specs.Shown.{shown}
 use Rattle.dispatcher.proofs.Stored.{sound-stored}
 use Rattle.dispatcher.proofs.Answering.{refuse, accept, chosen}
-use Rattle.tables.proofs.Lives.{live-hold}
+use Rattle.rules.proofs.Tables.Writes.{hold-relabels}
 use Rattle.dispatcher.proofs.ThreadChanges.{threadsTo, threads-shown, threads-exact}
 use native.Mathlib.Omega.{arith}
 use borrow.Author.Needs.{needs}
@@ -28,7 +28,7 @@ choose-requires : tie.Need-choose-requires
 choose-requires c κs =
     let start = c .before .before .before .before .before in
     let ok = sound-stored (start .args .self) (start .pre) in
-    record { exact = threads-exact (start .args .self) _ _ ok (c .with-hold .ensures) (live-hold _ _ _); few = omega arith }
+    record { exact = threads-exact (start .args .self) _ _ ok (c .with-hold .ensures) (hold-relabels _ _ _ .count); few = omega arith }
 
 returns : tie.Need-returns
 returns c = refuse _ _ (c .answered .ensures) (rw (c .before .enum-told .given .1) refl)

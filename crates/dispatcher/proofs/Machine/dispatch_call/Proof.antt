@@ -87,11 +87,7 @@ call-donates-requires : tie.Need-call-donates-requires
 call-donates-requires c κs =
     let at-running = c .before .before .before .before .before .before .before .before .before .before .before in
     let start = at-running .before .before in
-    let full : length (start .args .t1 .threads) ≡ 128 = simp length-map at (start .good .0 .1 .1 .0 .1 .0 .1) in (
-      choosable _ (sound-stored _ (start .pre)),
-      count-fits (shown (start .args .t1)) _ _ _ (sound-shown _ (start .pre))
-          (at-running .running .given .1) full,
-    )
+    (choosable _ (sound-stored _ (start .pre)), count-fits (shown (start .args .t1)) _ _ _ (sound-shown _ (start .pre)) (at-running .running .given .1))
 
 returns-5 : tie.Need-returns-5
 unfolding call

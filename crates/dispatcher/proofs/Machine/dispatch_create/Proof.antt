@@ -9,7 +9,7 @@ use Rattle.rules.specs.State.{threadAt}
 use Rattle.rules.specs.Events.{create}
 use Rattle.dispatcher.proofs.Stored.{sound-stored}
 use Rattle.dispatcher.proofs.Answering.{refuse, accept, stands}
-use Rattle.tables.proofs.Lives.{live-most}
+use Rattle.rules.proofs.Bounds.{live-most}
 use Rattle.dispatcher.proofs.Stored.{live-is}
 use Rattle.dispatcher.proofs.ThreadChanges.{creation-shown, creation-exact}
 use Rattle.dispatcher.specs.Shown.{shown}

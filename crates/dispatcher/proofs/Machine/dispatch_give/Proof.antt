@@ -13,7 +13,7 @@ use Rattle.dispatcher.proofs.Stored.{sound-stored, sound-shown}
 use Rattle.dispatcher.proofs.Answering.{refuse, accept}
 use Rattle.dispatcher.proofs.Stored.{turns-fit}
 use Rattle.rules.proofs.Soundness.Places.{sound-of}
-use Rattle.dispatcher.proofs.Pigeonhole.{room}
+use Rattle.rules.proofs.Bounds.{turns-room}
 use Rattle.dispatcher.proofs.TimesliceChanges.{gift, gift-shown, gift-exact, given-to}
 use Rattle.dispatcher.proofs.ThreadChanges.{read, choosable}
 use borrow.Author.Needs.{needs}
@@ -26,11 +26,10 @@ roomy c =
     let at-if1 = c .before .before .before .before in
     let start = at-if1 .before in
     let m = start .args .t1 in
-    let turns = sound-of (shown m) (sound-shown m (start .pre)) .mid .shape .turns in
     let fits = turns-fit m (sound-stored m (start .pre)) in
     let full : length (m .order) ≡ 128 = simp length-map at (start .good .0 .1 .1 .1 .1 .0 .1 .0 .1) in
-    let few = room 128 (start .args .t) (take (m .«live_timeslices») (m .order)) (turns .small) (turns .once)
-    (omega (arith, at-if1 .if1 .left)) (sym (c .before .member .ensures) ∙ c .if3 .left) in
+    let few = turns-room (shown m) (sound-of (shown m) (sound-shown m (start .pre))) (start .args .t) (omega (arith, at-if1 .if1 .left))
+    (sym (c .before .member .ensures) ∙ c .if3 .left) in
     omega (arith, few, length-take-le (m .«live_timeslices») (m .order) (omega arith))
 
 returns : tie.Need-returns

@@ -12,7 +12,7 @@ use Rattle.rules.specs.Threads.{replied}
 use Rattle.rules.specs.Events.{reply, replyBy, replyTo}
 use Rattle.dispatcher.proofs.Stored.{sound-stored}
 use Rattle.dispatcher.proofs.Answering.{refuse, accept, said-of}
-use Rattle.tables.proofs.Lives.{live-replied}
+use Rattle.rules.proofs.Tables.Writes.{replied-relabels}
 use Rattle.tables.proofs.Lookups.{past}
 use Rattle.dispatcher.proofs.ThreadChanges.{read, choosable, threadsTo, threads-shown, threads-exact}
 use borrow.Author.Needs.{needs}
@@ -63,7 +63,7 @@ replied-requires c κs = tt
 reply-to-requires : tie.Need-reply-to-requires
 reply-to-requires c κs =
     let start = c .before .before .before .before .before .before .before .before .before .before in
-    choosable _ (threads-exact (start .args .t1) _ _ (sound-stored _ (start .pre)) (c .replied .ensures) (live-replied _ _))
+    choosable _ (threads-exact (start .args .t1) _ _ (sound-stored _ (start .pre)) (c .replied .ensures) (replied-relabels _ _ .count))
 
 returns-3 : tie.Need-returns-3
 returns-3 c = refuse _ _ (c .answered .ensures) (rw (c .before .enum-told .given .1) refl)

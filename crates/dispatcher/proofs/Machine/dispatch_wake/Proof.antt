@@ -11,7 +11,7 @@ use Rattle.rules.specs.Sound.{isBlocked}
 use Rattle.rules.specs.Events.{wake, releases}
 use Rattle.dispatcher.proofs.Stored.{sound-stored}
 use Rattle.dispatcher.proofs.Answering.{refuse, accept, said-of}
-use Rattle.tables.proofs.Lives.{live-hold}
+use Rattle.rules.proofs.Tables.Writes.{hold-relabels}
 use Rattle.dispatcher.proofs.ThreadChanges.{read, choosable, threadsTo, threads-shown, threads-exact}
 use borrow.Author.Needs.{needs}
 use Rattle.dispatcher.proofs.Machine.dispatch_wake.Statement.{statement}
@@ -59,7 +59,7 @@ with-hold-requires c κs = search needs
 waiters-released-requires : tie.Need-waiters-released-requires
 waiters-released-requires c κs =
     let start = c .before .before .before .before .before .before .before .before .before in
-    choosable _ (threads-exact (start .args .t1) _ _ (sound-stored _ (start .pre)) (c .with-hold .ensures) (live-hold _ _ _))
+    choosable _ (threads-exact (start .args .t1) _ _ (sound-stored _ (start .pre)) (c .with-hold .ensures) (hold-relabels _ _ _ .count))
 
 returns-4 : tie.Need-returns-4
 unfolding wake
