@@ -40,15 +40,5 @@ returns-2 c = search needs
 pub read-spec : {M : Type 1} → statement M
 read-spec =
     tie.close
-    (tie.spec
-    Inv-loop
-    μ-loop
-    slice-aggregate-open-file
-    open-file-requires
-    loop-holds
-    step-listed-requires
-    returns
-    add-counter
-    loop-less
-    loop-again
-    returns-2)
+    (tie.spec Inv-loop μ-loop slice-aggregate-open-file open-file-requires loop-holds step-listed-requires returns add-counter loop-less
+    loop-again returns-2)

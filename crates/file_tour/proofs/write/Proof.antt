@@ -42,15 +42,5 @@ returns c = search needs
 pub write-spec : {M : Type 1} → statement M
 write-spec =
     tie.close
-    (tie.spec
-    Inv-loop
-    μ-loop
-    slice-aggregate-start-file
-    start-file-requires
-    loop-holds
-    append-listed-requires
-    add-place
-    loop-less
-    loop-again
-    same-length
-    returns)
+    (tie.spec Inv-loop μ-loop slice-aggregate-start-file start-file-requires loop-holds append-listed-requires add-place loop-less
+    loop-again same-length returns)

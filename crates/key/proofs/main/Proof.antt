@@ -61,21 +61,6 @@ returns-3 c = search needs
 pub main-spec : {M : Type 1} → statement M
 main-spec =
     tie.close
-    (tie.spec
-    input-requires
-    slice-aggregate-fill
-    fill-requires
-    slice-aggregate-complain
-    complain-requires
-    returns
-    room-requires
-    array-share-prefix-file
-    slice-aggregate-write-key
-    write-key-requires
-    array-share-prefix-out
-    slice-aggregate-send
-    send-requires
-    slice-aggregate-complain-2
-    complain-requires-2
-    returns-2
-    returns-3)
+    (tie.spec input-requires slice-aggregate-fill fill-requires slice-aggregate-complain complain-requires returns room-requires
+    array-share-prefix-file slice-aggregate-write-key write-key-requires array-share-prefix-out slice-aggregate-send send-requires
+    slice-aggregate-complain-2 complain-requires-2 returns-2 returns-3)

@@ -38,5 +38,4 @@ returns-2 c =
     (reading as-key (c .put-lines .ensures))
 
 pub write-key-spec : {M : Type 1} → statement M
-write-key-spec =
-    tie.close (tie.spec file-refusal-requires put-file-line-requires returns put-lines-requires returns-2)
+write-key-spec = tie.close (tie.spec file-refusal-requires put-file-line-requires returns put-lines-requires returns-2)

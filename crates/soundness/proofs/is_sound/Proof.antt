@@ -67,17 +67,5 @@ returns c =
 pub is-sound-spec : {M : Type 1} → statement M
 is-sound-spec =
     tie.close
-    (tie.spec
-    count-live-requires
-    both-requires
-    numbers-good-requires
-    both-requires-2
-    turns-good-requires
-    both-requires-3
-    listed-once-requires
-    both-requires-4
-    owners-apart-requires
-    both-requires-5
-    is-settled-requires
-    both-requires-6
-    returns)
+    (tie.spec count-live-requires both-requires numbers-good-requires both-requires-2 turns-good-requires both-requires-3
+    listed-once-requires both-requires-4 owners-apart-requires both-requires-5 is-settled-requires both-requires-6 returns)

@@ -42,14 +42,5 @@ returns-3 c = c .before .before .put-digits .ensures
 pub put-decimal-spec : {M : Type 1} → statement M
 put-decimal-spec =
     tie.close
-    (tie.spec
-    put-four-digits-requires
-    same-length
-    returns
-    put-four-digits-requires-2
-    put-pair-requires
-    same-length-2
-    returns-2
-    put-digits-requires
-    same-length-3
-    returns-3)
+    (tie.spec put-four-digits-requires same-length returns put-four-digits-requires-2 put-pair-requires same-length-2 returns-2
+    put-digits-requires same-length-3 returns-3)

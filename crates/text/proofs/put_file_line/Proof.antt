@@ -30,10 +30,4 @@ returns c =
 pub put-file-line-spec : {M : Type 1} → statement M
 put-file-line-spec =
     tie.close
-    (tie.spec
-    slice-aggregate-put-bytes
-    put-bytes-requires
-    put-decimal-requires
-    put-byte-requires
-    same-length
-    returns)
+    (tie.spec slice-aggregate-put-bytes put-bytes-requires put-decimal-requires put-byte-requires same-length returns)

@@ -34,11 +34,4 @@ returns-2 c =
 pub put-four-digits-spec : {M : Type 1} → statement M
 put-four-digits-spec =
     tie.close
-    (tie.spec
-    put-two-digits-requires
-    same-length
-    returns
-    put-two-digits-requires-2
-    put-pair-requires
-    same-length-2
-    returns-2)
+    (tie.spec put-two-digits-requires same-length returns put-two-digits-requires-2 put-pair-requires same-length-2 returns-2)

@@ -49,14 +49,5 @@ returns-2 c =
 pub put-two-digits-spec : {M : Type 1} → statement M
 put-two-digits-spec =
     tie.close
-    (tie.spec
-    last-digit-requires
-    put-byte-requires
-    same-length
-    returns
-    last-digit-requires-2
-    put-byte-requires-2
-    last-digit-requires-3
-    put-byte-requires-3
-    same-length-2
-    returns-2)
+    (tie.spec last-digit-requires put-byte-requires same-length returns last-digit-requires-2 put-byte-requires-2 last-digit-requires-3
+    put-byte-requires-3 same-length-2 returns-2)

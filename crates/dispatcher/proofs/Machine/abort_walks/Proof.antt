@@ -168,5 +168,7 @@ returns-3 c =
     (at-wide .wide .ensures) (shows ∙ how) (c .choose3 .ensures)
 
 pub abort-walks-spec : {M : Type 1} → statement M
-abort-walks-spec = tie.close (tie.spec walk-requires index-requires mul-z element-copy-out-z aborted-requires wide-requires release-requires
-    choose-requires returns is-blocked-requires release-requires-2 choose-requires-2 returns-2 choose-requires-3 returns-3)
+abort-walks-spec =
+    tie.close
+    (tie.spec walk-requires index-requires mul-z element-copy-out-z aborted-requires wide-requires release-requires choose-requires returns
+    is-blocked-requires release-requires-2 choose-requires-2 returns-2 choose-requires-3 returns-3)

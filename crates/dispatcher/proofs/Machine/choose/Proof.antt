@@ -284,48 +284,8 @@ returns-3 c = rw (c .answered3 .ensures) (out _ _ _ _ _ _ _ _ _ _ (c .before .be
 pub choose-spec : {M : Type 1} → statement M
 choose-spec =
     tie.close
-    (tie.spec
-    Inv-loop
-    μ-loop
-    index-requires
-    add-looks
-    fill-requires
-    loop-holds
-    sub-looks
-    top-of-requires
-    enum-told
-    answered-requires
-    returns
-    enum-known-top
-    index-requires-2
-    mul-x
-    element-copy-out-x
-    walk-requires
-    added-requires
-    index-requires-3
-    mul-z
-    element-copy-out-z
-    judged-requires
-    enum-told-2
-    answered-requires-2
-    returns-2
-    enum-told-3
-    donated-requires
-    aside-requires
-    mul-x-2
-    element-copy-out-x-2
-    mul-y
-    element-set-from-y
-    code-requires
-    park-codes-requires
-    freed-by-requires
-    release-set-requires
-    enum-told-4
-    loop-less
-    loop-again
-    enum-known-first
-    released-requires
-    loop-less-2
-    loop-again-2
-    answered-requires-3
-    returns-3)
+    (tie.spec Inv-loop μ-loop index-requires add-looks fill-requires loop-holds sub-looks top-of-requires enum-told answered-requires
+    returns enum-known-top index-requires-2 mul-x element-copy-out-x walk-requires added-requires index-requires-3 mul-z element-copy-out-z
+    judged-requires enum-told-2 answered-requires-2 returns-2 enum-told-3 donated-requires aside-requires mul-x-2 element-copy-out-x-2 mul-y
+    element-set-from-y code-requires park-codes-requires freed-by-requires release-set-requires enum-told-4 loop-less loop-again
+    enum-known-first released-requires loop-less-2 loop-again-2 answered-requires-3 returns-3)

@@ -54,5 +54,6 @@ returns c =
     (c .choose .ensures)
 
 pub depleted-spec : {M : Type 1} → statement M
-depleted-spec = tie.close (tie.spec index-requires mul-x element-copy-out-x mul-y element-set-from-y to-back-requires release-requires
-    choose-requires returns)
+depleted-spec =
+    tie.close
+    (tie.spec index-requires mul-x element-copy-out-x mul-y element-set-from-y to-back-requires release-requires choose-requires returns)

@@ -76,7 +76,9 @@ returns-8 : tie.Need-returns-8
 returns-8 c = rw (c .before .before .e6 .given .1) (c .dispatch-abort .ensures)
 
 pub dispatch-spec : {M : Type 1} → statement M
-dispatch-spec = tie.close (tie.spec enum-known-e dispatch-create-requires enum-known-e-2 dispatch-give-requires enum-known-e-3
-    dispatch-call-requires enum-told dispatch-reply-requires enum-told-2 dispatch-block-requires enum-known-e-4 dispatch-wake-requires
-    enum-known-e-5 dispatch-charge-requires enum-known-e-6 dispatch-abort-requires returns returns-2 returns-3 returns-4 returns-5 returns-6
-    returns-7 returns-8)
+dispatch-spec =
+    tie.close
+    (tie.spec enum-known-e dispatch-create-requires enum-known-e-2 dispatch-give-requires enum-known-e-3 dispatch-call-requires enum-told
+    dispatch-reply-requires enum-told-2 dispatch-block-requires enum-known-e-4 dispatch-wake-requires enum-known-e-5
+    dispatch-charge-requires enum-known-e-6 dispatch-abort-requires returns returns-2 returns-3 returns-4 returns-5 returns-6 returns-7
+    returns-8)

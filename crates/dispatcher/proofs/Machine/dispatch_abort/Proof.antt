@@ -70,5 +70,7 @@ returns-4 c =
     (c .abort-walks .ensures)
 
 pub dispatch-abort-spec : {M : Type 1} → statement M
-dispatch-abort-spec = tie.close (tie.spec (λ _ _. tt) returns index-requires mul-thread element-copy-out-thread (λ _ _. tt) returns-2
-    is-linked-requires (λ _ _. tt) returns-3 abort-walks-requires returns-4)
+dispatch-abort-spec =
+    tie.close
+    (tie.spec (λ _ _. tt) returns index-requires mul-thread element-copy-out-thread (λ _ _. tt) returns-2 is-linked-requires (λ _ _. tt)
+    returns-3 abort-walks-requires returns-4)

@@ -45,6 +45,4 @@ returns-2 c =
     (chosen (threadsTo _ m) 0 _ _ (threads-shown m _ _ (c .before .with-hold .ensures)) (c .choose .ensures))
 
 pub dispatch-block-spec : {M : Type 1} → statement M
-dispatch-block-spec =
-    tie.close
-    (tie.spec enum-told (λ _ _. tt) enum-known-running with-hold-requires choose-requires returns returns-2)
+dispatch-block-spec = tie.close (tie.spec enum-told (λ _ _. tt) enum-known-running with-hold-requires choose-requires returns returns-2)

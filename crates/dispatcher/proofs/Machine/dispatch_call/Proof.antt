@@ -160,25 +160,6 @@ returns-7 c =
 pub dispatch-call-spec : {M : Type 1} → statement M
 dispatch-call-spec =
     tie.close
-    (tie.spec
-    enum-told
-    (λ _ _. tt)
-    enum-known-running
-    (λ _ _. tt)
-    returns
-    index-requires
-    mul-thread
-    element-copy-out-thread
-    (λ _ _. tt)
-    returns-2
-    is-server-requires
-    (λ _ _. tt)
-    returns-3
-    (λ _ _. tt)
-    returns-4
-    is-idle-requires
-    call-donates-requires
-    returns-5
-    call-helps-requires
-    returns-6
-    returns-7)
+    (tie.spec enum-told (λ _ _. tt) enum-known-running (λ _ _. tt) returns index-requires mul-thread element-copy-out-thread (λ _ _. tt)
+    returns-2 is-server-requires (λ _ _. tt) returns-3 (λ _ _. tt) returns-4 is-idle-requires call-donates-requires returns-5
+    call-helps-requires returns-6 returns-7)

@@ -142,5 +142,7 @@ returns-5 c =
     (stored-with m ok _ refl refl (live-is m ok)))
 
 pub dispatch-charge-spec : {M : Type 1} → statement M
-dispatch-charge-spec = tie.close (tie.spec enum-told (λ _ _. tt) enum-known-running (λ _ _. tt) returns index-requires mul-x
-    element-copy-out-x (λ _ _. tt) returns-2 depleted-requires returns-3 mul-y element-set-from-y (λ _ _. tt) returns-4 returns-5)
+dispatch-charge-spec =
+    tie.close
+    (tie.spec enum-told (λ _ _. tt) enum-known-running (λ _ _. tt) returns index-requires mul-x element-copy-out-x (λ _ _. tt) returns-2
+    depleted-requires returns-3 mul-y element-set-from-y (λ _ _. tt) returns-4 returns-5)

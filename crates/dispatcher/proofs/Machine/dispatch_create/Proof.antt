@@ -71,17 +71,5 @@ returns-3 c =
 pub dispatch-create-spec : {M : Type 1} → statement M
 dispatch-create-spec =
     tie.close
-    (tie.spec
-    (λ _ _. tt)
-    returns
-    index-requires
-    mul-old
-    element-copy-out-old
-    (λ _ _. tt)
-    returns-2
-    starts-as-requires
-    mul-new
-    element-set-from-new
-    add-self
-    (λ _ _. tt)
-    returns-3)
+    (tie.spec (λ _ _. tt) returns index-requires mul-old element-copy-out-old (λ _ _. tt) returns-2 starts-as-requires mul-new
+    element-set-from-new add-self (λ _ _. tt) returns-3)

@@ -188,6 +188,8 @@ returns-7 c =
     (at-index2 .index2 .ensures) (c .before .index3 .ensures) (roomy at-if3) full) (c .overtaken .ensures))
 
 pub dispatch-give-spec : {M : Type 1} → statement M
-dispatch-give-spec = tie.close (tie.spec (λ _ _. tt) returns (λ _ _. tt) returns-2 member-requires (λ _ _. tt) returns-3 index-requires
-    mul-thread element-copy-out-thread (λ _ _. tt) returns-4 owns-one-requires (λ _ _. tt) returns-5 (λ _ _. tt) returns-6 index-requires-2
-    mul-new element-set-from-new index-requires-3 element-write-self add-self overtaken-requires returns-7)
+dispatch-give-spec =
+    tie.close
+    (tie.spec (λ _ _. tt) returns (λ _ _. tt) returns-2 member-requires (λ _ _. tt) returns-3 index-requires mul-thread
+    element-copy-out-thread (λ _ _. tt) returns-4 owns-one-requires (λ _ _. tt) returns-5 (λ _ _. tt) returns-6 index-requires-2 mul-new
+    element-set-from-new index-requires-3 element-write-self add-self overtaken-requires returns-7)

@@ -91,19 +91,5 @@ returns-4 c =
 pub dispatch-reply-spec : {M : Type 1} → statement M
 dispatch-reply-spec =
     tie.close
-    (tie.spec
-    enum-told
-    (λ _ _. tt)
-    enum-known-running
-    index-requires
-    (λ _ _. tt)
-    returns
-    mul-thread
-    element-copy-out-thread
-    is-server-requires
-    (λ _ _. tt)
-    returns-2
-    replied-requires
-    reply-to-requires
-    returns-3
-    returns-4)
+    (tie.spec enum-told (λ _ _. tt) enum-known-running index-requires (λ _ _. tt) returns mul-thread element-copy-out-thread
+    is-server-requires (λ _ _. tt) returns-2 replied-requires reply-to-requires returns-3 returns-4)

@@ -81,17 +81,5 @@ returns-4 c =
 pub dispatch-wake-spec : {M : Type 1} → statement M
 dispatch-wake-spec =
     tie.close
-    (tie.spec
-    (λ _ _. tt)
-    returns
-    index-requires
-    mul-thread
-    element-copy-out-thread
-    (λ _ _. tt)
-    returns-2
-    is-blocked-requires
-    (λ _ _. tt)
-    returns-3
-    with-hold-requires
-    waiters-released-requires
-    returns-4)
+    (tie.spec (λ _ _. tt) returns index-requires mul-thread element-copy-out-thread (λ _ _. tt) returns-2 is-blocked-requires (λ _ _. tt)
+    returns-3 with-hold-requires waiters-released-requires returns-4)

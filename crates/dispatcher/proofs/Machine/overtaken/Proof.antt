@@ -42,13 +42,4 @@ returns-3 c =
 pub overtaken-spec : {M : Type 1} → statement M
 overtaken-spec =
     tie.close
-    (tie.spec
-    enum-told
-    choose-requires
-    enum-known-running
-    stands-above-requires
-    choose-requires-2
-    returns
-    (λ _ _. tt)
-    returns-2
-    returns-3)
+    (tie.spec enum-told choose-requires enum-known-running stands-above-requires choose-requires-2 returns (λ _ _. tt) returns-2 returns-3)

@@ -51,16 +51,5 @@ returns-4 c = rw (c .before .enum-told2 .given .1) (c .choose3 .ensures)
 pub reply-to-spec : {M : Type 1} → statement M
 reply-to-spec =
     tie.close
-    (tie.spec
-    enum-told
-    choose-requires
-    enum-known-service
-    sub-t10
-    (λ _ _. tt)
-    returns
-    choose-requires-2
-    enum-told-2
-    choose-requires-3
-    returns-2
-    returns-3
-    returns-4)
+    (tie.spec enum-told choose-requires enum-known-service sub-t10 (λ _ _. tt) returns choose-requires-2 enum-told-2 choose-requires-3
+    returns-2 returns-3 returns-4)

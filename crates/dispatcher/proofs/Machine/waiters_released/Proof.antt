@@ -39,12 +39,4 @@ returns-2 c =
 pub waiters-released-spec : {M : Type 1} → statement M
 waiters-released-spec =
     tie.close
-    (tie.spec
-    topmost-requires
-    enum-told
-    (λ _ _. tt)
-    enum-known-first
-    released-requires
-    overtaken-requires
-    returns
-    returns-2)
+    (tie.spec topmost-requires enum-told (λ _ _. tt) enum-known-first released-requires overtaken-requires returns returns-2)

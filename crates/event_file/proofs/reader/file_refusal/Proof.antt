@@ -21,5 +21,4 @@ returns-2 c =
     (c .before .before .head-refusal .ensures) (c .before .if1 .left) (c .records-refusal .ensures)
 
 pub file-refusal-spec : {M : Type 1} → statement M
-file-refusal-spec =
-    tie.close (tie.spec head-refusal-requires returns records-refusal-requires returns-2)
+file-refusal-spec = tie.close (tie.spec head-refusal-requires returns records-refusal-requires returns-2)

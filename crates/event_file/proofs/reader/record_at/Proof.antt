@@ -52,16 +52,5 @@ returns-2 c =
 pub record-at-spec : {M : Type 1} → statement M
 record-at-spec =
     tie.close
-    (tie.spec
-    shared-slice-read-wide
-    wide-requires
-    add-first
-    sub-if1
-    returns
-    add-next
-    sub-body
-    part-body-start
-    part-body-end
-    body-requires
-    moved-requires
-    returns-2)
+    (tie.spec shared-slice-read-wide wide-requires add-first sub-if1 returns add-next sub-body part-body-start part-body-end body-requires
+    moved-requires returns-2)

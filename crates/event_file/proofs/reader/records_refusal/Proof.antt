@@ -50,6 +50,4 @@ returns-2 c =
     rw (← c .before .loop .inv, ended (now (start .args .file)) (c .before .loop .at) (search needs))
 
 pub records-refusal-spec : {M : Type 1} → statement M
-records-refusal-spec =
-    tie.close
-    (tie.spec Inv-loop μ-loop loop-holds record-at-requires returns loop-less loop-again returns-2)
+records-refusal-spec = tie.close (tie.spec Inv-loop μ-loop loop-holds record-at-requires returns loop-less loop-again returns-2)

@@ -81,14 +81,5 @@ returns-2 c =
 pub append-spec : {M : Type 1} → statement M
 append-spec =
     tie.close
-    (tie.spec
-    append-refusal-requires
-    same-length
-    returns
-    record-length-requires
-    add-after
-    put-record-requires
-    sub-put-length
-    put-length-requires
-    same-length-2
-    returns-2)
+    (tie.spec append-refusal-requires same-length returns record-length-requires add-after put-record-requires sub-put-length
+    put-length-requires same-length-2 returns-2)

@@ -58,13 +58,5 @@ returns-5 c = rw (← by-room (c .before .before)) (simp (le-ltb _ _ (c .before 
 pub append-refusal-spec : {M : Type 1} → statement M
 append-refusal-spec =
     tie.close
-    (tie.spec
-    returns
-    slice-aggregate-file-refusal
-    file-refusal-requires
-    returns-2
-    record-length-requires
-    add-after
-    returns-3
-    returns-4
+    (tie.spec returns slice-aggregate-file-refusal file-refusal-requires returns-2 record-length-requires add-after returns-3 returns-4
     returns-5)

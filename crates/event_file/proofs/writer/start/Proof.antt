@@ -33,5 +33,4 @@ returns-2 c =
     (ap (λ (w : Written). w .refusal) e, ap (λ (w : Written). w .filled) e, ap (λ (w : Written). w .buffer) e)
 
 pub start-spec : {M : Type 1} → statement M
-start-spec =
-    tie.close (tie.spec returns put-length-requires slice-write-buffer same-length returns-2)
+start-spec = tie.close (tie.spec returns put-length-requires slice-write-buffer same-length returns-2)

@@ -31,12 +31,4 @@ returns c =
     columns .put-columns .ensures then space .put-byte .ensures then links .put-decimal .ensures then feed .put-byte2 .ensures
 
 pub put-line-spec : {M : Type 1} → statement M
-put-line-spec =
-    tie.close
-    (tie.spec
-    put-columns-requires
-    put-byte-requires
-    put-decimal-requires
-    put-byte-requires-2
-    same-length
-    returns)
+put-line-spec = tie.close (tie.spec put-columns-requires put-byte-requires put-decimal-requires put-byte-requires-2 same-length returns)

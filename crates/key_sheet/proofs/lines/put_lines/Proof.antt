@@ -75,17 +75,5 @@ loop-again c =
 pub put-lines-spec : {M : Type 1} → statement M
 put-lines-spec =
     tie.close
-    (tie.spec
-    Inv-loop
-    μ-loop
-    empty-requires
-    loop-holds
-    step-requires
-    enum-known-found
-    same-length
-    returns
-    dispatch-requires
-    put-line-requires
-    add-number
-    loop-less
-    loop-again)
+    (tie.spec Inv-loop μ-loop empty-requires loop-holds step-requires enum-known-found same-length returns dispatch-requires
+    put-line-requires add-number loop-less loop-again)

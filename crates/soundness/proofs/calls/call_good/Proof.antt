@@ -16,5 +16,4 @@ returns : tie.Need-returns
 returns c = simp (← c .before .before .call-is-served .ensures, ← c .before .served-is-calling .ensures, ← c .both .ensures)
 
 pub call-good-spec : {M : Type 1} → statement M
-call-good-spec =
-    tie.close (tie.spec call-is-served-requires served-is-calling-requires both-requires returns)
+call-good-spec = tie.close (tie.spec call-is-served-requires served-is-calling-requires both-requires returns)

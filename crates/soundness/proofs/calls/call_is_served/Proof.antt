@@ -42,16 +42,5 @@ returns-5 c = search needs
 pub call-is-served-spec : {M : Type 1} → statement M
 call-is-served-spec =
     tie.close
-    (tie.spec
-    enum-told
-    enum-told-2
-    enum-told-3
-    enum-known-hold
-    thread-at-requires
-    is-serving-requires
-    enum-told-4
-    returns
-    returns-2
-    returns-3
-    returns-4
-    returns-5)
+    (tie.spec enum-told enum-told-2 enum-told-3 enum-known-hold thread-at-requires is-serving-requires enum-told-4 returns returns-2
+    returns-3 returns-4 returns-5)

@@ -30,12 +30,4 @@ returns-3 c = search needs
 pub served-is-calling-spec : {M : Type 1} → statement M
 served-is-calling-spec =
     tie.close
-    (tie.spec
-    enum-told
-    enum-known-service
-    thread-at-requires
-    is-calling-requires
-    enum-told-2
-    returns
-    returns-2
-    returns-3)
+    (tie.spec enum-told enum-known-service thread-at-requires is-calling-requires enum-told-2 returns returns-2 returns-3)

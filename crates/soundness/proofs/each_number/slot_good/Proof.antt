@@ -43,12 +43,5 @@ returns c =
 pub slot-good-spec : {M : Type 1} → statement M
 slot-good-spec =
     tie.close
-    (tie.spec
-    timeslice-at-requires
-    member-requires
-    slice-free-requires
-    either-requires
-    in-set-requires
-    either-requires-2
-    both-requires
+    (tie.spec timeslice-at-requires member-requires slice-free-requires either-requires in-set-requires either-requires-2 both-requires
     returns)

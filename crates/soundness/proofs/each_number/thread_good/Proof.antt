@@ -44,13 +44,5 @@ returns c =
 pub thread-good-spec : {M : Type 1} → statement M
 thread-good-spec =
     tie.close
-    (tie.spec
-    thread-at-requires
-    call-good-requires
-    link-good-requires
-    both-requires
-    idle-good-requires
-    both-requires-2
-    live-or-free-requires
-    both-requires-3
-    returns)
+    (tie.spec thread-at-requires call-good-requires link-good-requires both-requires idle-good-requires both-requires-2
+    live-or-free-requires both-requires-3 returns)

@@ -46,12 +46,5 @@ returns c =
 pub turn-good-spec : {M : Type 1} → statement M
 turn-good-spec =
     tie.close
-    (tie.spec
-    timeslice-at-requires
-    thread-at-requires
-    both-requires
-    in-range-requires
-    both-requires-2
-    place-good-requires
-    both-requires-3
+    (tie.spec timeslice-at-requires thread-at-requires both-requires in-range-requires both-requires-2 place-good-requires both-requires-3
     returns)

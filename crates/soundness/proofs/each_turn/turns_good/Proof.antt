@@ -55,15 +55,4 @@ returns-2 c =
 pub turns-good-spec : {M : Type 1} → statement M
 turns-good-spec =
     tie.close
-    (tie.spec
-    Inv-loop
-    μ-loop
-    entries-requires
-    loop-holds
-    array-read-t
-    turn-good-requires
-    add-i
-    loop-less
-    loop-again
-    returns
-    returns-2)
+    (tie.spec Inv-loop μ-loop entries-requires loop-holds array-read-t turn-good-requires add-i loop-less loop-again returns returns-2)

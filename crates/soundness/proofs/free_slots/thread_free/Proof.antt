@@ -31,12 +31,4 @@ returns c =
     )
 
 pub thread-free-spec : {M : Type 1} → statement M
-thread-free-spec =
-    tie.close
-    (tie.spec
-    is-server-requires
-    is-ready-requires
-    is-nobody-requires
-    both-requires
-    both-requires-2
-    returns)
+thread-free-spec = tie.close (tie.spec is-server-requires is-ready-requires is-nobody-requires both-requires both-requires-2 returns)

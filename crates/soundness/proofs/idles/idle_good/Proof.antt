@@ -43,12 +43,4 @@ returns c =
 pub idle-good-spec : {M : Type 1} → statement M
 idle-good-spec =
     tie.close
-    (tie.spec
-    is-idle-requires
-    is-server-requires
-    is-nobody-requires
-    both-requires
-    agree-requires
-    implies-requires
-    both-requires-2
-    returns)
+    (tie.spec is-idle-requires is-server-requires is-nobody-requires both-requires agree-requires implies-requires both-requires-2 returns)

@@ -42,16 +42,5 @@ returns-5 c = simp (← c .link-to2 .ensures, c .before .before .hold2 .given .1
 pub link-good-spec : {M : Type 1} → statement M
 link-good-spec =
     tie.close
-    (tie.spec
-    enum-told
-    enum-told-2
-    enum-told-3
-    enum-known-hold
-    link-to-requires
-    enum-known-hold-2
-    link-to-requires-2
-    returns
-    returns-2
-    returns-3
-    returns-4
-    returns-5)
+    (tie.spec enum-told enum-told-2 enum-told-3 enum-known-hold link-to-requires enum-known-hold-2 link-to-requires-2 returns returns-2
+    returns-3 returns-4 returns-5)

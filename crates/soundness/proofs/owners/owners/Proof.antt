@@ -56,15 +56,5 @@ returns c =
 pub owners-spec : {M : Type 1} → statement M
 owners-spec =
     tie.close
-    (tie.spec
-    Inv-loop
-    μ-loop
-    entries-requires
-    loop-holds
-    array-read-t
-    timeslice-at-requires
-    array-write-listed
-    add-i
-    loop-less
-    loop-again
+    (tie.spec Inv-loop μ-loop entries-requires loop-holds array-read-t timeslice-at-requires array-write-listed add-i loop-less loop-again
     returns)

@@ -37,11 +37,4 @@ returns c =
 pub behind-good-spec : {M : Type 1} → statement M
 behind-good-spec =
     tie.close
-    (tie.spec
-    timeslice-at-requires
-    member-requires
-    in-set-requires
-    both-requires
-    stands-above-requires
-    both-requires-2
-    returns)
+    (tie.spec timeslice-at-requires member-requires in-set-requires both-requires stands-above-requires both-requires-2 returns)

@@ -86,20 +86,5 @@ returns-4 c =
 pub place-good-spec : {M : Type 1} → statement M
 place-good-spec =
     tie.close
-    (tie.spec
-    timeslice-at-requires
-    enum-told
-    enum-known-place
-    behind-good-requires
-    enum-known-place-2
-    walk-requires
-    verdict-of-requires
-    waits-at-requires
-    enum-told-2
-    walk-requires-2
-    verdict-of-requires-2
-    is-stalls-requires
-    returns
-    returns-2
-    returns-3
-    returns-4)
+    (tie.spec timeslice-at-requires enum-told enum-known-place behind-good-requires enum-known-place-2 walk-requires verdict-of-requires
+    waits-at-requires enum-told-2 walk-requires-2 verdict-of-requires-2 is-stalls-requires returns returns-2 returns-3 returns-4)

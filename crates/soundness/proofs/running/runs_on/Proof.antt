@@ -46,13 +46,5 @@ returns-3 c =
 pub runs-on-spec : {M : Type 1} → statement M
 runs-on-spec =
     tie.close
-    (tie.spec
-    enum-told
-    enum-known-running
-    timeslice-at-requires
-    walk-requires
-    verdict-of-requires
-    runs-as-requires
-    returns
-    returns-2
+    (tie.spec enum-told enum-known-running timeslice-at-requires walk-requires verdict-of-requires runs-as-requires returns returns-2
     returns-3)

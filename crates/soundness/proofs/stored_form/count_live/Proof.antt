@@ -44,14 +44,4 @@ returns c =
 pub count-live-spec : {M : Type 1} → statement M
 count-live-spec =
     tie.close
-    (tie.spec
-    Inv-loop
-    μ-loop
-    loop-holds
-    mul-t
-    array-copy-out-t
-    one-more-if-requires
-    add-i
-    loop-less
-    loop-again
-    returns)
+    (tie.spec Inv-loop μ-loop loop-holds mul-t array-copy-out-t one-more-if-requires add-i loop-less loop-again returns)

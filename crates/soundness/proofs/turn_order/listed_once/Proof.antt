@@ -54,15 +54,4 @@ returns-2 c =
 pub listed-once-spec : {M : Type 1} → statement M
 listed-once-spec =
     tie.close
-    (tie.spec
-    Inv-loop
-    μ-loop
-    entries-requires
-    loop-holds
-    array-read-t
-    add-i
-    listed-from-requires
-    returns
-    loop-less
-    loop-again
-    returns-2)
+    (tie.spec Inv-loop μ-loop entries-requires loop-holds array-read-t add-i listed-from-requires returns loop-less loop-again returns-2)

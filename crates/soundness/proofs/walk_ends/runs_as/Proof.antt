@@ -32,15 +32,4 @@ returns-5 : tie.Need-returns-5
 returns-5 c = search needs
 
 pub runs-as-spec : {M : Type 1} → statement M
-runs-as-spec =
-    tie.close
-    (tie.spec
-    enum-told
-    returns
-    enum-told-2
-    enum-told-3
-    enum-told-4
-    returns-2
-    returns-3
-    returns-4
-    returns-5)
+runs-as-spec = tie.close (tie.spec enum-told returns enum-told-2 enum-told-3 enum-told-4 returns-2 returns-3 returns-4 returns-5)

@@ -28,6 +28,4 @@ returns-4 : tie.Need-returns-4
 returns-4 c = search needs
 
 pub waits-at-spec : {M : Type 1} → statement M
-waits-at-spec =
-    tie.close
-    (tie.spec enum-told enum-told-2 enum-told-3 enum-told-4 returns returns-2 returns-3 returns-4)
+waits-at-spec = tie.close (tie.spec enum-told enum-told-2 enum-told-3 enum-told-4 returns returns-2 returns-3 returns-4)

@@ -59,20 +59,5 @@ returns-2 c = record { within = search needs; whole = sym (le-ltb _ _ (c .loop-t
 pub write-whole-spec : {M : Type 1} → statement M
 write-whole-spec =
     tie.close
-    (tie.spec
-    Inv-loop
-    μ-loop
-    loop-holds
-    sub-write
-    part-write-start
-    part-write-end
-    write-requires
-    sub-count
-    part-count-start
-    part-count-end
-    count-requires
-    returns
-    add-at
-    loop-less
-    loop-again
-    returns-2)
+    (tie.spec Inv-loop μ-loop loop-holds sub-write part-write-start part-write-end write-requires sub-count part-count-start part-count-end
+    count-requires returns add-at loop-less loop-again returns-2)

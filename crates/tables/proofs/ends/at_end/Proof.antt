@@ -40,15 +40,4 @@ returns-6 c = search needs
 pub at-end-spec : {M : Type 1} → statement M
 at-end-spec =
     tie.close
-    (tie.spec
-    enum-told
-    enum-told-2
-    returns
-    enum-told-3
-    enum-told-4
-    enum-told-5
-    returns-2
-    returns-3
-    returns-4
-    returns-5
-    returns-6)
+    (tie.spec enum-told enum-told-2 returns enum-told-3 enum-told-4 enum-told-5 returns-2 returns-3 returns-4 returns-5 returns-6)

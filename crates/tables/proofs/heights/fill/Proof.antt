@@ -116,29 +116,6 @@ returns c = filled _ _ _ _ _ _ _ _ _ (c .before .loop .inv) (c .loop-test .left)
 pub fill-spec : {M : Type 1} → statement M
 fill-spec =
     tie.close
-    (tie.spec
-    Inv-loop
-    μ-loop
-    entries-requires
-    loop-holds
-    add-next
-    array-read-t
-    index-requires
-    mul-x
-    array-copy-out-x
-    code-requires
-    mul-codes
-    element-write-codes
-    height-requires
-    mul-heights
-    element-write-heights
-    loop-less
-    loop-again
-    mul-codes-2
-    element-write-codes-2
-    height-requires-2
-    mul-heights-2
-    element-write-heights-2
-    loop-less-2
-    loop-again-2
-    returns)
+    (tie.spec Inv-loop μ-loop entries-requires loop-holds add-next array-read-t index-requires mul-x array-copy-out-x code-requires
+    mul-codes element-write-codes height-requires mul-heights element-write-heights loop-less loop-again mul-codes-2 element-write-codes-2
+    height-requires-2 mul-heights-2 element-write-heights-2 loop-less-2 loop-again-2 returns)

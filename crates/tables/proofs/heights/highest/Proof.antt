@@ -52,18 +52,5 @@ returns c = sought _ _ _ _ _ _ (c .before .loop .inv) (c .loop-test .left)
 pub highest-spec : {M : Type 1} → statement M
 highest-spec =
     tie.close
-    (tie.spec
-    Inv-loop
-    μ-loop
-    entries-requires
-    loop-holds
-    sub-i
-    mul-c
-    element-copy-out-c
-    mul-r
-    element-copy-out-r
-    weight-requires
-    higher-requires
-    loop-less
-    loop-again
-    returns)
+    (tie.spec Inv-loop μ-loop entries-requires loop-holds sub-i mul-c element-copy-out-c mul-r element-copy-out-r weight-requires
+    higher-requires loop-less loop-again returns)

@@ -61,18 +61,5 @@ returns c = recoded _ _ _ _ _ _ _ (c .before .loop .inv) (c .loop-test .left)
 pub park-codes-spec : {M : Type 1} → statement M
 park-codes-spec =
     tie.close
-    (tie.spec
-    Inv-loop
-    μ-loop
-    entries-requires
-    loop-holds
-    mul-c
-    element-copy-out-c
-    element-copy-out-u
-    parked-code-requires
-    mul-codes
-    element-write-codes
-    add-i
-    loop-less
-    loop-again
-    returns)
+    (tie.spec Inv-loop μ-loop entries-requires loop-holds mul-c element-copy-out-c element-copy-out-u parked-code-requires mul-codes
+    element-write-codes add-i loop-less loop-again returns)

@@ -42,4 +42,5 @@ returns-2 c =
 
 pub release-set-spec : {M : Type 1} → statement M
 release-set-spec =
-    tie.close (tie.spec code-requires top-of-requires enum-told enum-known-first code-requires-2 release-codes-requires returns returns-2)
+    tie.close
+    (tie.spec code-requires top-of-requires enum-told enum-known-first code-requires-2 release-codes-requires returns returns-2)

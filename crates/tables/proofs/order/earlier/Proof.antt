@@ -59,15 +59,4 @@ returns-3 c =
 pub earlier-spec : {M : Type 1} → statement M
 earlier-spec =
     tie.close
-    (tie.spec
-    Inv-loop
-    μ-loop
-    entries-requires
-    loop-holds
-    array-read-t
-    returns
-    returns-2
-    add-i
-    loop-less
-    loop-again
-    returns-3)
+    (tie.spec Inv-loop μ-loop entries-requires loop-holds array-read-t returns returns-2 add-i loop-less loop-again returns-3)

@@ -34,6 +34,4 @@ returns-2 : tie.Need-returns-2
 returns-2 c = simp (same-place, ← c .before .before .kind .ensures, ← c .before .kind2 .ensures, ne-eqb _ _ (c .if1 .left))
 
 pub in-set-spec : {M : Type 1} → statement M
-in-set-spec =
-    tie.close
-    (tie.spec kind-requires kind-requires-2 number-requires number-requires-2 returns returns-2)
+in-set-spec = tie.close (tie.spec kind-requires kind-requires-2 number-requires number-requires-2 returns returns-2)

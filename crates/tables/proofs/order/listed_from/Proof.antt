@@ -52,14 +52,4 @@ returns-2 c =
 pub listed-from-spec : {M : Type 1} → statement M
 listed-from-spec =
     tie.close
-    (tie.spec
-    Inv-loop
-    μ-loop
-    entries-requires
-    loop-holds
-    array-read-u
-    returns
-    add-i
-    loop-less
-    loop-again
-    returns-2)
+    (tie.spec Inv-loop μ-loop entries-requires loop-holds array-read-u returns add-i loop-less loop-again returns-2)

@@ -95,20 +95,5 @@ returns-3 c =
 pub owns-one-spec : {M : Type 1} → statement M
 owns-one-spec =
     tie.close
-    (tie.spec
-    Inv-loop
-    μ-loop
-    entries-requires
-    loop-holds
-    array-read-t
-    index-requires
-    add-i
-    mul-x
-    array-copy-out-x
-    returns
-    loop-less
-    loop-again
-    returns-2
-    loop-less-2
-    loop-again-2
-    returns-3)
+    (tie.spec Inv-loop μ-loop entries-requires loop-holds array-read-t index-requires add-i mul-x array-copy-out-x returns loop-less
+    loop-again returns-2 loop-less-2 loop-again-2 returns-3)

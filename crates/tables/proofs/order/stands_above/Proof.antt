@@ -62,5 +62,6 @@ returns-3 c =
     lower _ _ _ _ _ _ (high place2) (low place2) (c .before .if3 .left) (c .if4 .left)
 
 pub stands-above-spec : {M : Type 1} → statement M
-stands-above-spec = tie.close (tie.spec index-requires mul-x array-copy-out-x index-requires-2 mul-y array-copy-out-y returns
-    earlier-requires returns-2 returns-3)
+stands-above-spec =
+    tie.close
+    (tie.spec index-requires mul-x array-copy-out-x index-requires-2 mul-y array-copy-out-y returns earlier-requires returns-2 returns-3)

@@ -36,14 +36,4 @@ returns-5 c = search needs
 pub is-calling-spec : {M : Type 1} → statement M
 is-calling-spec =
     tie.close
-    (tie.spec
-    enum-told
-    enum-told-2
-    enum-told-3
-    enum-known-hold
-    enum-told-4
-    returns
-    returns-2
-    returns-3
-    returns-4
-    returns-5)
+    (tie.spec enum-told enum-told-2 enum-told-3 enum-known-hold enum-told-4 returns returns-2 returns-3 returns-4 returns-5)

@@ -22,5 +22,4 @@ returns-3 : tie.Need-returns-3
 returns-3 c = search needs
 
 pub is-serving-spec : {M : Type 1} → statement M
-is-serving-spec =
-    tie.close (tie.spec enum-told enum-known-service enum-told-2 returns returns-2 returns-3)
+is-serving-spec = tie.close (tie.spec enum-told enum-known-service enum-told-2 returns returns-2 returns-3)

@@ -98,24 +98,6 @@ returns c =
 pub released-spec : {M : Type 1} → statement M
 released-spec =
     tie.close
-    (tie.spec
-    Inv-loop
-    μ-loop
-    entries-requires
-    loop-holds
-    array-read-t
-    add-i
-    index-requires
-    mul-x
-    array-copy-out-x
-    in-set-requires
-    released-one-requires
-    mul-timeslices
-    array-set-from-timeslices
-    loop-less
-    loop-again
-    loop-less-2
-    loop-again-2
-    loop-less-3
-    loop-again-3
+    (tie.spec Inv-loop μ-loop entries-requires loop-holds array-read-t add-i index-requires mul-x array-copy-out-x in-set-requires
+    released-one-requires mul-timeslices array-set-from-timeslices loop-less loop-again loop-less-2 loop-again-2 loop-less-3 loop-again-3
     returns)

@@ -18,5 +18,4 @@ unfolding donate
 returns c = rw (c .before .with-hold2 .ensures, c .before .before .with-hold .ensures) at (c .with-service .ensures)
 
 pub donated-spec : {M : Type 1} → statement M
-donated-spec =
-    tie.close (tie.spec with-hold-requires with-hold-requires-2 with-service-requires returns)
+donated-spec = tie.close (tie.spec with-hold-requires with-hold-requires-2 with-service-requires returns)

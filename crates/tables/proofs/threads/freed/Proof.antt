@@ -25,13 +25,4 @@ returns-3 : tie.Need-returns-3
 returns-3 c = search needs
 
 pub freed-spec : {M : Type 1} → statement M
-freed-spec =
-    tie.close
-    (tie.spec
-    enum-told
-    enum-known-service
-    with-hold-requires
-    enum-told-2
-    returns
-    returns-2
-    returns-3)
+freed-spec = tie.close (tie.spec enum-told enum-known-service with-hold-requires enum-told-2 returns returns-2 returns-3)

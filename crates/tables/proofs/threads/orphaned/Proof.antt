@@ -39,15 +39,5 @@ returns-5 c = search needs
 pub orphaned-spec : {M : Type 1} → statement M
 orphaned-spec =
     tie.close
-    (tie.spec
-    enum-told
-    enum-told-2
-    enum-told-3
-    enum-known-hold
-    with-service-requires
-    enum-told-4
-    returns
-    returns-2
-    returns-3
-    returns-4
+    (tie.spec enum-told enum-told-2 enum-told-3 enum-known-hold with-service-requires enum-told-4 returns returns-2 returns-3 returns-4
     returns-5)

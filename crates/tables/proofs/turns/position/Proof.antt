@@ -39,6 +39,4 @@ returns-2 : tie.Need-returns-2 Inv-loop μ-loop
 returns-2 c = let inv = c .before .loop .inv in lost _ _ _ (inv .0) _ _ (inv .1) (c .loop-test .left)
 
 pub position-spec : {M : Type 1} → statement M
-position-spec =
-    tie.close
-    (tie.spec Inv-loop μ-loop entries-requires loop-holds array-read-u returns add-i loop-less loop-again returns-2)
+position-spec = tie.close (tie.spec Inv-loop μ-loop entries-requires loop-holds array-read-u returns add-i loop-less loop-again returns-2)

@@ -47,17 +47,5 @@ returns c = close _ _ _ _ _ _ _ (c .before .loop .inv) (c .loop-test .left)
 pub shifted-spec : {M : Type 1} → statement M
 shifted-spec =
     tie.close
-    (tie.spec
-    Inv-loop
-    μ-loop
-    entries-requires
-    loop-holds
-    add-loop
-    add-u
-    array-read-u
-    array-write-order
-    add-i
-    loop-less
-    loop-again
-    array-write-order-2
-    returns)
+    (tie.spec Inv-loop μ-loop entries-requires loop-holds add-loop add-u array-read-u array-write-order add-i loop-less loop-again
+    array-write-order-2 returns)

@@ -89,22 +89,5 @@ returns-3 c = out _ _ _ _ _ (c .before .loop .inv) (c .loop-test .left)
 pub walk-spec : {M : Type 1} → statement M
 walk-spec =
     tie.close
-    (tie.spec
-    Inv-loop
-    μ-loop
-    loop-holds
-    index-requires
-    returns
-    mul-thread
-    array-copy-out-thread
-    enum-known-hold
-    add-links
-    add-count
-    loop-less
-    loop-again
-    enum-known-hold-2
-    add-links-2
-    loop-less-2
-    loop-again-2
-    returns-2
-    returns-3)
+    (tie.spec Inv-loop μ-loop loop-holds index-requires returns mul-thread array-copy-out-thread enum-known-hold add-links add-count
+    loop-less loop-again enum-known-hold-2 add-links-2 loop-less-2 loop-again-2 returns-2 returns-3)

@@ -40,11 +40,4 @@ returns c =
 pub put-columns-spec : {M : Type 1} → statement M
 put-columns-spec =
     tie.close
-    (tie.spec
-    put-column-requires
-    put-verdict-requires
-    put-byte-requires
-    put-column-requires-2
-    put-running-requires
-    same-length
-    returns)
+    (tie.spec put-column-requires put-verdict-requires put-byte-requires put-column-requires-2 put-running-requires same-length returns)

@@ -57,18 +57,5 @@ returns-2 c =
 pub put-running-spec : {M : Type 1} → statement M
 put-running-spec =
     tie.close
-    (tie.spec
-    enum-told
-    slice-aggregate-put-bytes
-    put-bytes-requires
-    enum-known-running
-    cast-put-column
-    put-column-requires
-    cast-put-column-2
-    put-column-requires-2
-    cast-put-decimal
-    put-decimal-requires
-    same-length
-    returns
-    same-length-2
-    returns-2)
+    (tie.spec enum-told slice-aggregate-put-bytes put-bytes-requires enum-known-running cast-put-column put-column-requires
+    cast-put-column-2 put-column-requires-2 cast-put-decimal put-decimal-requires same-length returns same-length-2 returns-2)

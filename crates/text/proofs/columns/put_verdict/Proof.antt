@@ -38,12 +38,5 @@ returns-2 c =
 pub put-verdict-spec : {M : Type 1} → statement M
 put-verdict-spec =
     tie.close
-    (tie.spec
-    slice-aggregate-put-bytes
-    put-bytes-requires
-    same-length
-    returns
-    slice-aggregate-put-bytes-2
-    put-bytes-requires-2
-    same-length-2
-    returns-2)
+    (tie.spec slice-aggregate-put-bytes put-bytes-requires same-length returns slice-aggregate-put-bytes-2 put-bytes-requires-2
+    same-length-2 returns-2)

@@ -63,13 +63,4 @@ returns-6 c =
 pub head-refusal-spec : {M : Type 1} → statement M
 head-refusal-spec =
     tie.close
-    (tie.spec
-    returns
-    returns-2
-    length-field-requires
-    returns-3
-    add-if4
-    returns-4
-    shared-slice-read-if5
-    returns-5
-    returns-6)
+    (tie.spec returns returns-2 length-field-requires returns-3 add-if4 returns-4 shared-slice-read-if5 returns-5 returns-6)

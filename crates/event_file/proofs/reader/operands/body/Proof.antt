@@ -42,11 +42,4 @@ returns-2 c =
 pub body-spec : {M : Type 1} → statement M
 body-spec =
     tie.close
-    (tie.spec
-    returns
-    shared-slice-read-event-of
-    sub-event-of
-    part-event-of-start
-    part-event-of-end
-    event-of-requires
-    returns-2)
+    (tie.spec returns shared-slice-read-event-of sub-event-of part-event-of-start part-event-of-end event-of-requires returns-2)

@@ -25,6 +25,4 @@ returns-2 c =
     rw (c .word .ensures) (fit _ _ _ _ (oneWord-is Charge (now (start .args .operands))) (c .before .before .before .if1 .left))
 
 pub charge-spec : {M : Type 1} → statement M
-charge-spec =
-    tie.close
-    (tie.spec returns shared-slice-read-word shared-slice-read-word-2 word-requires returns-2)
+charge-spec = tie.close (tie.spec returns shared-slice-read-word shared-slice-read-word-2 word-requires returns-2)

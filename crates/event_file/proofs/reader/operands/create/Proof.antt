@@ -37,12 +37,4 @@ returns-4 : tie.Need-returns-4
 returns-4 c = simp (← read (c .before .before), ne-eqb _ _ (c .before .if2 .left), ne-eqb _ _ (c .if3 .left))
 
 pub create-spec : {M : Type 1} → statement M
-create-spec =
-    tie.close
-    (tie.spec
-    returns
-    shared-slice-read-thread
-    shared-slice-read-role
-    returns-2
-    returns-3
-    returns-4)
+create-spec = tie.close (tie.spec returns shared-slice-read-thread shared-slice-read-role returns-2 returns-3 returns-4)

@@ -68,21 +68,5 @@ returns-9 c =
 pub event-of-spec : {M : Type 1} → statement M
 event-of-spec =
     tie.close
-    (tie.spec
-    create-requires
-    give-requires
-    call-requires
-    reply-requires
-    block-requires
-    wake-requires
-    charge-requires
-    abort-requires
-    returns
-    returns-2
-    returns-3
-    returns-4
-    returns-5
-    returns-6
-    returns-7
-    returns-8
-    returns-9)
+    (tie.spec create-requires give-requires call-requires reply-requires block-requires wake-requires charge-requires abort-requires returns
+    returns-2 returns-3 returns-4 returns-5 returns-6 returns-7 returns-8 returns-9)

@@ -36,12 +36,5 @@ returns-2 c =
 pub give-spec : {M : Type 1} → statement M
 give-spec =
     tie.close
-    (tie.spec
-    returns
-    shared-slice-read-word
-    shared-slice-read-word-2
-    word-requires
-    shared-slice-read-t6
-    shared-slice-read-t8
-    shared-slice-read-t12
-    returns-2)
+    (tie.spec returns shared-slice-read-word shared-slice-read-word-2 word-requires shared-slice-read-t6 shared-slice-read-t8
+    shared-slice-read-t12 returns-2)

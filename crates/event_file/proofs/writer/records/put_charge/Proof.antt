@@ -24,5 +24,4 @@ returns c =
     )
 
 pub put-charge-spec : {M : Type 1} → statement M
-put-charge-spec =
-    tie.close (tie.spec high-byte-requires low-byte-requires put4-requires same-length returns)
+put-charge-spec = tie.close (tie.spec high-byte-requires low-byte-requires put4-requires same-length returns)

@@ -33,13 +33,4 @@ returns c =
     )
 
 pub put-give-spec : {M : Type 1} → statement M
-put-give-spec =
-    tie.close
-    (tie.spec
-    high-byte-requires
-    low-byte-requires
-    put4-requires
-    add-put3
-    put3-requires
-    same-length
-    returns)
+put-give-spec = tie.close (tie.spec high-byte-requires low-byte-requires put4-requires add-put3 put3-requires same-length returns)

@@ -148,36 +148,7 @@ returns-8 c =
 pub put-record-spec : {M : Type 1} → statement M
 put-record-spec =
     tie.close
-    (tie.spec
-    enum-known-event
-    put-create-requires
-    enum-known-event-2
-    put-give-requires
-    enum-known-event-3
-    put3-requires
-    enum-told
-    put2-requires
-    enum-told-2
-    put2-requires-2
-    enum-known-event-4
-    put3-requires-2
-    enum-known-event-5
-    put-charge-requires
-    enum-known-event-6
-    put3-requires-3
-    same-length
-    returns
-    same-length-2
-    returns-2
-    same-length-3
-    returns-3
-    same-length-4
-    returns-4
-    same-length-5
-    returns-5
-    same-length-6
-    returns-6
-    same-length-7
-    returns-7
-    same-length-8
-    returns-8)
+    (tie.spec enum-known-event put-create-requires enum-known-event-2 put-give-requires enum-known-event-3 put3-requires enum-told
+    put2-requires enum-told-2 put2-requires-2 enum-known-event-4 put3-requires-2 enum-known-event-5 put-charge-requires enum-known-event-6
+    put3-requires-3 same-length returns same-length-2 returns-2 same-length-3 returns-3 same-length-4 returns-4 same-length-5 returns-5
+    same-length-6 returns-6 same-length-7 returns-7 same-length-8 returns-8)

@@ -22,5 +22,4 @@ returns : tie.Need-returns
 returns c = simp towards-suc
 
 pub put2-spec : {M : Type 1} → statement M
-put2-spec =
-    tie.close (tie.spec slice-write-buffer add-buffer slice-write-buffer-2 same-length returns)
+put2-spec = tie.close (tie.spec slice-write-buffer add-buffer slice-write-buffer-2 same-length returns)

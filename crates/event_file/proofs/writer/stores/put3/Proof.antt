@@ -28,13 +28,4 @@ returns : tie.Need-returns
 returns c = simp towards-suc
 
 pub put3-spec : {M : Type 1} → statement M
-put3-spec =
-    tie.close
-    (tie.spec
-    slice-write-buffer
-    add-buffer
-    slice-write-buffer-2
-    add-buffer-2
-    slice-write-buffer-3
-    same-length
-    returns)
+put3-spec = tie.close (tie.spec slice-write-buffer add-buffer slice-write-buffer-2 add-buffer-2 slice-write-buffer-3 same-length returns)

@@ -36,13 +36,5 @@ returns c = simp towards-suc
 pub put4-spec : {M : Type 1} → statement M
 put4-spec =
     tie.close
-    (tie.spec
-    slice-write-buffer
-    add-buffer
-    slice-write-buffer-2
-    add-buffer-2
-    slice-write-buffer-3
-    add-buffer-3
-    slice-write-buffer-4
-    same-length
-    returns)
+    (tie.spec slice-write-buffer add-buffer slice-write-buffer-2 add-buffer-2 slice-write-buffer-3 add-buffer-3 slice-write-buffer-4
+    same-length returns)
