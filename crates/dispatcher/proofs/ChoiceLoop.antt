@@ -1,6 +1,6 @@
 -- The choice as a loop: what is left to choose from here is the whole choice.
 use Prim.Native.Nat.{ℕ, suc, _+_, _*_, _-_, _≤_, _<_}
-use mathlib.Core.Path.{_≡_, refl, sym, _∙_, ap, ap₂, subst}
+use mathlib.Core.Path.{_≡_, refl, sym, _∙_, ap, ap₂}
 use mathlib.Core.Logic.{⊎-elim}
 use mathlib.Core.List.{List, [], _∷_, map}
 use mathlib.Core.Bool.{true, false, cond}
@@ -13,13 +13,13 @@ use denote.Enum.Declared.{tagOf}
 use Rattle.rules.specs.declared.Hold.{Hold}
 use Rattle.rules.specs.declared.Thread.{Thread}
 use Rattle.rules.specs.declared.Place.{Place}
-use Rattle.rules.specs.declared.Place.the-variants.{Queue, Behind, On}
+use Rattle.rules.specs.declared.Place.the-variants.{Queue}
 use Rattle.rules.specs.declared.Chain.{Chain}
 use Rattle.rules.specs.declared.Timeslice.{Timeslice}
 use Rattle.rules.specs.declared.Running.{Running}
 use Rattle.rules.specs.declared.Running.the-variants.{Nothing, Runs}
-use Rattle.rules.specs.State.{Slice, State, ownerAt, holdAt, liveThreads, withThreads, withPlaces, withRunning}
-use Rattle.rules.specs.Walk.{walk, chainOf, atEnd, verdict, Verdict, runs, retries, stalls}
+use Rattle.rules.specs.State.{State, ownerAt, holdAt, liveThreads, withPlaces, withRunning}
+use Rattle.rules.specs.Walk.{walk, chainOf, atEnd, verdict, Verdict, runs, stalls}
 use Rattle.rules.specs.Threads.{donate}
 use Rattle.rules.specs.Release.{inQueue, behind, topmostAt, release}
 use Rattle.rules.specs.Choice.{Outcome, park, retry, decide, look, chooseFrom, choose}
@@ -33,7 +33,7 @@ use Rattle.tables.specs.declared.ends.Verdict.the-variants.{Runs as RunsNow, Re
 use Rattle.tables.specs.Sets.{setOf, soughtOf}
 use Rattle.tables.specs.Releasing.{placesAfter, Replaced}
 use Rattle.tables.specs.Turning.{entriesOf}
-use Rattle.tables.specs.Codes.{codeOf, codeAt, heightAt, topOf, highest, parkedCode, Entered, Recoded, Coded}
+use Rattle.tables.specs.Codes.{codeOf, topOf, highest, parkedCode, Recoded, Coded}
 use Rattle.tables.specs.Verdicts.{verdictOf}
 use Rattle.dispatcher.specs.Choosing.{asideOf, freedBy, Choosable, before, Chosen}
 use Rattle.tables.proofs.ends.Verdict.{the-type}

@@ -1,5 +1,5 @@
 -- A rightly stored machine is the only one that shows its state: a contract that gives the state and `stored` leaves nothing open.
-use Prim.Native.Nat.{ℕ, _≤_, _<_}
+use Prim.Native.Nat.{ℕ, _<_}
 use mathlib.Core.Path.{_≡_, refl, sym, ap, _∙_}
 use mathlib.Core.List.{List, [], _∷_, map}
 use mathlib.Core.Bool.{true}

@@ -1,7 +1,7 @@
 -- What `stored` says of a machine: true counts, and 0 in the free entries of the turn order.
 use Prim.Native.Nat.{ℕ, _≤_, _<_}
 use mathlib.Core.Path.{_≡_}
-use mathlib.Core.Bool.{Bool, true, _&&_, _||_}
+use mathlib.Core.Bool.{Bool, true}
 use lib.ListN.{getD}
 use lib.Dec.{leb, ltb, eqb}
 use borrow.Author.Tests.{eqb-true, leb-true, eq-eqb, le-ltb, le-leb, ltb-false}

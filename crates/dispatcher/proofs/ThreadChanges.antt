@@ -65,7 +65,8 @@ module _ (m : Machine) (k n : ℕ) (r : Role) (h : Hold) (at : k ≡ n) (starts 
   pub creation-exact : stored m ≡ true → n < length (m .threads) → threadAt (m .threads) n .live ≡ false → stored creation ≡ true
   creation-exact ok short free =
       stored-with m ok creation refl refl
-      (add-one (m .«live_threads») ∙ ap suc (live-is m ok) ∙ sym (created-made (m .threads) n r short free .count) ∙ sym (ap liveThreads creates))
+      (add-one (m .«live_threads») ∙ ap suc (live-is m ok) ∙ sym (created-made (m .threads) n r short free .count)
+      ∙ sym (ap liveThreads creates))
 
 -- what stands at an index stands at its number
 pub read : {A : Type 0} (f : Thread → A) (ts : List Thread) (k n : ℕ) (v : A) → k ≡ n → f (threadAt ts k) ≡ v → f (threadAt ts n) ≡ v

@@ -2,7 +2,7 @@
 -- offset on, because a step reads the first of the events that are left; the machine stays sound.
 use Prim.Native.Nat.{ℕ, _≤_, _<_}
 use native.Mathlib.Omega.{arith}
-use mathlib.Core.Path.{_≡_, refl, sym, ap, _∙_, subst}
+use mathlib.Core.Path.{_≡_, refl, sym, ap, _∙_}
 use mathlib.Core.List.{List, [], _∷_}
 use mathlib.Core.Bool.{Bool, true, false, _&&_}
 use mathlib.Core.Logic.{⊎-elim}
@@ -153,5 +153,6 @@ module _ {bytes : List ℕ} {offset : ℕ} {m : Machine} {answers : List events.
     where
       by : Two (ltb offset (length bytes)) → answers ≡ []
       by (yes-true h) =
-          clash (isEvent (stepped bytes offset .found)) (some-inside (ltb-true offset (length bytes) h)) (ap isEvent (sym found) ∙ no-event f other)
+          clash (isEvent (stepped bytes offset .found)) (some-inside (ltb-true offset (length bytes) h))
+          (ap isEvent (sym found) ∙ no-event f other)
       by (no-false h) = none-at-end (omega (arith, ltb-false offset (length bytes) h, a .inside)) .1

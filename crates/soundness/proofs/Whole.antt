@@ -1,6 +1,6 @@
 -- The clauses asked of every number and of every timeslice are together document 01's test: each side implies the other.
 use Prim.Native.Nat.{ℕ, _<_}
-use mathlib.Core.Path.{_≡_, refl, sym, _∙_, ap, subst}
+use mathlib.Core.Path.{_≡_, refl, sym, _∙_, ap}
 use mathlib.Core.List.{List, map}
 use mathlib.Core.Option.{Option, none, some}
 use mathlib.Core.Bool.{Bool, true, false, _&&_, _||_}
@@ -15,14 +15,14 @@ use Rattle.rules.specs.declared.Timeslice.{Timeslice}
 use Rattle.rules.specs.declared.Running.{Running}
 use Rattle.rules.specs.declared.Running.the-variants.{Nothing, Runs}
 use Rattle.rules.specs.Tests.{member, distinct, all, below}
-use Rattle.rules.specs.State.{State, Plain, forget, limit, threadAt, holdAt, serviceAt, liveAt, ownerAt, sliceAt, placeAt, liveThreads}
+use Rattle.rules.specs.State.{State, forget, limit, threadAt, holdAt, serviceAt, liveAt, ownerAt, sliceAt, placeAt, liveThreads}
 use Rattle.rules.specs.Walk.{walk, walkFrom, chainOf, noLinks}
 use Rattle.rules.specs.Release.{inQueue, topmostAt}
-use Rattle.rules.specs.Sound.{callIsServed, servedIsCalling, linkGood, idleGood, threadFree, sliceFree, inRange, placeGood, tablesFull}
-use Rattle.rules.specs.Sound.{ownersLive, shaped, placed, settledOn, settled, sound}
+use Rattle.rules.specs.Sound.{callIsServed, servedIsCalling, linkGood, idleGood, threadFree, sliceFree, inRange, placeGood}
+use Rattle.rules.specs.Sound.{shaped, placed, settledOn, settled, sound}
 use Rattle.rules.proofs.Basics.Views.{and-true-left, and-true-right, and-true-both, and3, and4, and5}
 use Rattle.rules.proofs.Basics.Members.{all-at, all-of, below-at, below-of}
-use Rattle.rules.proofs.Soundness.Shapes.{Clauses, clauses, from-clauses}
+use Rattle.rules.proofs.Soundness.Shapes.{clauses, from-clauses}
 use Rattle.tables.specs.Timeslices.{sliceOf, placeOf}
 use Rattle.soundness.specs.Parts.{partsOf, entryFree, storedParts, soundParts, threadTest, slotTest, numberTest, chainWithin}
 use Rattle.soundness.specs.Parts.{placeTest, turnTest, settledBy, settledWithin}

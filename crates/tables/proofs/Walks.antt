@@ -1,5 +1,5 @@
 -- The walk as a loop: what is left to walk from here is the whole walk.
-use Prim.Native.Nat.{ℕ, zero, suc, _+_, _-_, _≤_, _<_}
+use Prim.Native.Nat.{ℕ, suc, _+_, _-_, _≤_, _<_}
 use mathlib.Core.Path.{_≡_, refl, sym, _∙_, ap}
 use mathlib.Core.List.{List}
 use mathlib.Core.List.{[], _∷_}
@@ -13,7 +13,7 @@ use Rattle.rules.specs.declared.Hold.the-variants.{Ready, Idle, Blocked, Callin
 use Rattle.rules.specs.declared.Thread.{Thread}
 use Rattle.rules.specs.declared.Chain.{Chain}
 use Rattle.rules.specs.State.{holdAt, liveThreads}
-use Rattle.rules.specs.Walk.{walkFrom, walk, follow, noLinks, donated, helped, ended, loop}
+use Rattle.rules.specs.Walk.{walkFrom, walk, follow, noLinks, ended, loop}
 
 -- after the chain c, at this thread
 pub record Walked (ts : List Thread) (live from : ℕ) (c : Chain) (at : ℕ) : Type 0 where

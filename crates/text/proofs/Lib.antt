@@ -1,3 +1,4 @@
+-- The laws of text put into a lent buffer.
 pub mod Puts
 pub mod Decimals
 pub mod ColumnParts

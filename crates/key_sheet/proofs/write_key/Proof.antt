@@ -8,12 +8,6 @@ use Rattle.key_sheet.proofs.Keys.{refused-key, accepted-key, at-front}
 use Rattle.key_sheet.proofs.write_key.Statement.{statement}
 use Rattle.key_sheet.proofs.write_key.Tie as tie
 
-file-refusal-requires : tie.Need-file-refusal-requires
-file-refusal-requires c κs = tt
-
-put-file-line-requires : tie.Need-put-file-line-requires
-put-file-line-requires c κs = tt
-
 returns : tie.Need-returns
 returns c =
     let lent = c .before in
@@ -38,4 +32,4 @@ returns-2 c =
     (reading as-key (c .put-lines .ensures))
 
 pub write-key-spec : {M : Type 1} → statement M
-write-key-spec = tie.close (tie.spec file-refusal-requires put-file-line-requires returns put-lines-requires returns-2)
+write-key-spec = tie.close (tie.spec (λ _ _. tt) (λ _ _. tt) returns put-lines-requires returns-2)

@@ -17,9 +17,6 @@ returns c = c .before .before .put-four-digits .ensures
 put-four-digits-requires-2 : tie.Need-put-four-digits-requires-2
 put-four-digits-requires-2 c κs = c .before .if2 .taken
 
-put-pair-requires : tie.Need-put-pair-requires
-put-pair-requires c κs = tt
-
 same-length-2 : tie.Need-same-length-2
 same-length-2 c = search needs
 
@@ -30,9 +27,6 @@ returns-2 c =
     pair-put (large .before .before .args .n) (omega (arith, large .if1 .left)) (front .put-four-digits2 .ensures)
     (c .before .before .put-pair .ensures)
 
-put-digits-requires : tie.Need-put-digits-requires
-put-digits-requires c κs = tt
-
 same-length-3 : tie.Need-same-length-3
 same-length-3 c = search needs
 
@@ -42,5 +36,5 @@ returns-3 c = c .before .before .put-digits .ensures
 pub put-decimal-spec : {M : Type 1} → statement M
 put-decimal-spec =
     tie.close
-    (tie.spec put-four-digits-requires same-length returns put-four-digits-requires-2 put-pair-requires same-length-2 returns-2
-    put-digits-requires same-length-3 returns-3)
+    (tie.spec put-four-digits-requires same-length returns put-four-digits-requires-2 (λ _ _. tt) same-length-2 returns-2 (λ _ _. tt)
+    same-length-3 returns-3)

@@ -19,9 +19,6 @@ put-two-digits-requires-2 c κs =
     let start = c .before .before .before in
     omega (arith, start .pre)
 
-put-pair-requires : tie.Need-put-pair-requires
-put-pair-requires c κs = tt
-
 same-length-2 : tie.Need-same-length-2
 same-length-2 c = search needs
 
@@ -34,4 +31,4 @@ returns-2 c =
 pub put-four-digits-spec : {M : Type 1} → statement M
 put-four-digits-spec =
     tie.close
-    (tie.spec put-two-digits-requires same-length returns put-two-digits-requires-2 put-pair-requires same-length-2 returns-2)
+    (tie.spec put-two-digits-requires same-length returns put-two-digits-requires-2 (λ _ _. tt) same-length-2 returns-2)

@@ -6,12 +6,6 @@ use native.Mathlib.Omega.{arith}
 use Rattle.text.proofs.put_two_digits.Statement.{statement}
 use Rattle.text.proofs.put_two_digits.Tie as tie
 
-last-digit-requires : tie.Need-last-digit-requires
-last-digit-requires c κs = tt
-
-put-byte-requires : tie.Need-put-byte-requires
-put-byte-requires c κs = tt
-
 same-length : tie.Need-same-length
 same-length c = search needs
 
@@ -20,18 +14,6 @@ returns c =
     let small = c .before .before .before .before .before in
     one-put (small .before .before .args .n) (small .if1 .taken) (c .before .before .before .last-digit .ensures)
     (c .before .before .put-byte .ensures)
-
-last-digit-requires-2 : tie.Need-last-digit-requires-2
-last-digit-requires-2 c κs = tt
-
-put-byte-requires-2 : tie.Need-put-byte-requires-2
-put-byte-requires-2 c κs = tt
-
-last-digit-requires-3 : tie.Need-last-digit-requires-3
-last-digit-requires-3 c κs = tt
-
-put-byte-requires-3 : tie.Need-put-byte-requires-3
-put-byte-requires-3 c κs = tt
 
 same-length-2 : tie.Need-same-length-2
 same-length-2 c = search needs
@@ -49,5 +31,4 @@ returns-2 c =
 pub put-two-digits-spec : {M : Type 1} → statement M
 put-two-digits-spec =
     tie.close
-    (tie.spec last-digit-requires put-byte-requires same-length returns last-digit-requires-2 put-byte-requires-2 last-digit-requires-3
-    put-byte-requires-3 same-length-2 returns-2)
+    (tie.spec (λ _ _. tt) (λ _ _. tt) same-length returns (λ _ _. tt) (λ _ _. tt) (λ _ _. tt) (λ _ _. tt) same-length-2 returns-2)

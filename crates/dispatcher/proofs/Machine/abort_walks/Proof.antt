@@ -17,7 +17,7 @@ use Rattle.rules.proofs.Bounds.{live-most}
 use Rattle.rules.proofs.Links.Chains.{walk-links}
 use Rattle.tables.proofs.Walks.{walks}
 use Rattle.rules.proofs.Tables.Writes.{aborted-relabels}
-use Rattle.dispatcher.proofs.Stored.{live-is, turns-fit, stored-with}
+use Rattle.dispatcher.proofs.Stored.{live-is, stored-with}
 use Rattle.dispatcher.proofs.TimesliceChanges.{movedTo, released-shown, aborts}
 use Rattle.dispatcher.proofs.ThreadChanges.{threads-shown}
 use borrow.Author.Needs.{needs}
@@ -55,26 +55,11 @@ few c =
     rw (walked c) (walk-links (start .args .t1 .threads) (start .args .n)) in
     omega (arith, most, live-most (start .args .t1 .threads), full)
 
-walk-requires : tie.Need-walk-requires
-walk-requires c κs = tt
-
-index-requires : tie.Need-index-requires
-index-requires c κs = tt
-
 mul-z : tie.Need-mul-z
 mul-z c = search needs
 
 element-copy-out-z : tie.Need-element-copy-out-z
 element-copy-out-z c = search needs
-
-aborted-requires : tie.Need-aborted-requires
-aborted-requires c κs = tt
-
-wide-requires : tie.Need-wide-requires
-wide-requires c κs = tt
-
-release-requires : tie.Need-release-requires
-release-requires c κs = tt
 
 choose-requires : tie.Need-choose-requires
 choose-requires c κs =
@@ -102,12 +87,6 @@ returns c =
     (withThreads (aborted (a .n) (m .threads)) (shown m))) (sym (c .before .before .if2 .taken)) in
     aborts m (a .n) chain _ (movedTo (at-aborted .aborted .result) (c .before .release .result) (m .order) m) _ (walked at-aborted)
     (at-wide .wide .ensures) (shows ∙ how) (c .choose .ensures)
-
-is-blocked-requires : tie.Need-is-blocked-requires
-is-blocked-requires c κs = tt
-
-release-requires-2 : tie.Need-release-requires-2
-release-requires-2 c κs = tt
 
 choose-requires-2 : tie.Need-choose-requires-2
 choose-requires-2 c κs =
@@ -170,5 +149,5 @@ returns-3 c =
 pub abort-walks-spec : {M : Type 1} → statement M
 abort-walks-spec =
     tie.close
-    (tie.spec walk-requires index-requires mul-z element-copy-out-z aborted-requires wide-requires release-requires choose-requires returns
-    is-blocked-requires release-requires-2 choose-requires-2 returns-2 choose-requires-3 returns-3)
+    (tie.spec (λ _ _. tt) (λ _ _. tt) mul-z element-copy-out-z (λ _ _. tt) (λ _ _. tt) (λ _ _. tt) choose-requires returns (λ _ _. tt)
+    (λ _ _. tt) choose-requires-2 returns-2 choose-requires-3 returns-3)

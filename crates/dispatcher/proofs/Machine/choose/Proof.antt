@@ -93,14 +93,8 @@ unreleased c =
     (none-aside m live order _ _ (w .coded) (w .timeslices) _ _ indexed (o .1 .result) n (c .match2 .codes) (o .2 .left) (o .3) (o .4))))
     (c .match2 .came)
 
-index-requires : tie.Need-index-requires Inv-loop μ-loop
-index-requires c κs = tt
-
 add-looks : tie.Need-add-looks Inv-loop μ-loop
 add-looks c = search needs
-
-fill-requires : tie.Need-fill-requires Inv-loop μ-loop
-fill-requires c κs = tt
 
 loop-holds : tie.Need-loop-holds Inv-loop μ-loop
 loop-holds c =
@@ -116,14 +110,8 @@ loop-holds c =
 sub-looks : tie.Need-sub-looks Inv-loop μ-loop
 sub-looks c = omega arith
 
-top-of-requires : tie.Need-top-of-requires Inv-loop μ-loop
-top-of-requires c κs = tt
-
 enum-told : tie.Need-enum-told Inv-loop μ-loop
 enum-told c = search needs
-
-answered-requires : tie.Need-answered-requires Inv-loop μ-loop
-answered-requires c κs = tt
 
 returns : tie.Need-returns Inv-loop μ-loop
 returns c =
@@ -137,25 +125,16 @@ returns c =
 enum-known-top : tie.Need-enum-known-top Inv-loop μ-loop
 enum-known-top c = search needs
 
-index-requires-2 : tie.Need-index-requires-2 Inv-loop μ-loop
-index-requires-2 c κs = tt
-
 mul-x : tie.Need-mul-x Inv-loop μ-loop
 mul-x c = search needs
 
 element-copy-out-x : tie.Need-element-copy-out-x Inv-loop μ-loop
 element-copy-out-x c = search needs
 
-walk-requires : tie.Need-walk-requires Inv-loop μ-loop
-walk-requires c κs = tt
-
 added-requires : tie.Need-added-requires Inv-loop μ-loop
 added-requires c κs =
     let turn = c .before .before .before .before .before .before .before .before .before .before .before .before in
     omega (arith, turn .loop .inv .few)
-
-index-requires-3 : tie.Need-index-requires-3 Inv-loop μ-loop
-index-requires-3 c κs = tt
 
 mul-z : tie.Need-mul-z Inv-loop μ-loop
 mul-z c = search needs
@@ -163,14 +142,8 @@ mul-z c = search needs
 element-copy-out-z : tie.Need-element-copy-out-z Inv-loop μ-loop
 element-copy-out-z c = search needs
 
-judged-requires : tie.Need-judged-requires Inv-loop μ-loop
-judged-requires c κs = tt
-
 enum-told-2 : tie.Need-enum-told-2 Inv-loop μ-loop
 enum-told-2 c = search needs
-
-answered-requires-2 : tie.Need-answered-requires-2 Inv-loop μ-loop
-answered-requires-2 c κs = tt
 
 returns-2 : tie.Need-returns-2 Inv-loop μ-loop
 returns-2 c =
@@ -185,12 +158,6 @@ returns-2 c =
 enum-told-3 : tie.Need-enum-told-3 Inv-loop μ-loop
 enum-told-3 c = search needs
 
-donated-requires : tie.Need-donated-requires Inv-loop μ-loop
-donated-requires c κs = tt
-
-aside-requires : tie.Need-aside-requires Inv-loop μ-loop
-aside-requires c κs = tt
-
 mul-x-2 : tie.Need-mul-x-2 Inv-loop μ-loop
 mul-x-2 c = search needs
 
@@ -203,25 +170,14 @@ mul-y c = search needs
 element-set-from-y : tie.Need-element-set-from-y Inv-loop μ-loop
 element-set-from-y c = search needs
 
-code-requires : tie.Need-code-requires Inv-loop μ-loop
-code-requires c κs = tt
-
-park-codes-requires : tie.Need-park-codes-requires Inv-loop μ-loop
-park-codes-requires c κs = tt
-
-freed-by-requires : tie.Need-freed-by-requires Inv-loop μ-loop
-freed-by-requires c κs = tt
-
-release-set-requires : tie.Need-release-set-requires Inv-loop μ-loop
-release-set-requires c κs = tt
-
 enum-told-4 : tie.Need-enum-told-4 Inv-loop μ-loop
 enum-told-4 c = search needs
 
 loop-less : tie.Need-loop-less Inv-loop μ-loop
 loop-less c =
     let joined = c .before .before .before .before .before .before .before in
-    let tested = joined .before .before .before .before .before .before .before .before .before .before .before .before .before .before .before .before in
+    let added = joined .before .before .before .before in
+    let tested = added .before .before .before .before .before .before .before .before .before .before .before .before in
     omega (arith, tested .loop-test .taken)
 
 loop-again : tie.Need-loop-again Inv-loop μ-loop
@@ -246,13 +202,11 @@ loop-again c =
 enum-known-first : tie.Need-enum-known-first Inv-loop μ-loop
 enum-known-first c = search needs
 
-released-requires : tie.Need-released-requires Inv-loop μ-loop
-released-requires c κs = tt
-
 loop-less-2 : tie.Need-loop-less-2 Inv-loop μ-loop
 loop-less-2 c =
     let joined = c .before .before .before .before .before .before .before .before .before .before in
-    let tested = joined .before .before .before .before .before .before .before .before .before .before .before .before .before .before .before .before in
+    let added = joined .before .before .before .before in
+    let tested = added .before .before .before .before .before .before .before .before .before .before .before .before in
     omega (arith, tested .loop-test .taken)
 
 loop-again-2 : tie.Need-loop-again-2 Inv-loop μ-loop
@@ -275,17 +229,14 @@ loop-again-2 c =
     goes-on _ _ _ _ _ _ _ _ _ _ w _ _ _ said n _ _ _ (tested .loop-test .taken) (added .added .ensures) (look judged said refl) before-it
     (rw (freed .ensures) at free)
 
-answered-requires-3 : tie.Need-answered-requires-3 Inv-loop μ-loop
-answered-requires-3 c κs = tt
-
 returns-3 : tie.Need-returns-3 Inv-loop μ-loop
 returns-3 c = rw (c .answered3 .ensures) (out _ _ _ _ _ _ _ _ _ _ (c .before .before .loop .inv) (c .before .loop-test .left))
 
 pub choose-spec : {M : Type 1} → statement M
 choose-spec =
     tie.close
-    (tie.spec Inv-loop μ-loop index-requires add-looks fill-requires loop-holds sub-looks top-of-requires enum-told answered-requires
-    returns enum-known-top index-requires-2 mul-x element-copy-out-x walk-requires added-requires index-requires-3 mul-z element-copy-out-z
-    judged-requires enum-told-2 answered-requires-2 returns-2 enum-told-3 donated-requires aside-requires mul-x-2 element-copy-out-x-2 mul-y
-    element-set-from-y code-requires park-codes-requires freed-by-requires release-set-requires enum-told-4 loop-less loop-again
-    enum-known-first released-requires loop-less-2 loop-again-2 answered-requires-3 returns-3)
+    (tie.spec Inv-loop μ-loop (λ _ _. tt) add-looks (λ _ _. tt) loop-holds sub-looks (λ _ _. tt) enum-told (λ _ _. tt) returns
+    enum-known-top (λ _ _. tt) mul-x element-copy-out-x (λ _ _. tt) added-requires (λ _ _. tt) mul-z element-copy-out-z (λ _ _. tt)
+    enum-told-2 (λ _ _. tt) returns-2 enum-told-3 (λ _ _. tt) (λ _ _. tt) mul-x-2 element-copy-out-x-2 mul-y element-set-from-y (λ _ _. tt)
+    (λ _ _. tt) (λ _ _. tt) (λ _ _. tt) enum-told-4 loop-less loop-again enum-known-first (λ _ _. tt) loop-less-2 loop-again-2 (λ _ _. tt)
+    returns-3)

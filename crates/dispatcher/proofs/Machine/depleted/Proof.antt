@@ -6,14 +6,10 @@ use Rattle.rules.specs.Release.{behind}
 use Rattle.rules.specs.Timeslices.{refilled, toBack}
 use Rattle.rules.specs.Events.{depletes}
 use Rattle.dispatcher.proofs.Answering.{chosen}
-use Rattle.dispatcher.proofs.Stored.{turns-fit}
 use Rattle.dispatcher.proofs.TimesliceChanges.{movedTo, refills, left-places, released-shown, turned-exact}
 use Rattle.dispatcher.proofs.ThreadChanges.{choosable}
 use Rattle.dispatcher.proofs.Machine.depleted.Statement.{statement}
 use Rattle.dispatcher.proofs.Machine.depleted.Tie as tie
-
-index-requires : tie.Need-index-requires
-index-requires c κs = tt
 
 mul-x : tie.Need-mul-x
 mul-x c = omega (arith, c .index .ensures, c .before .pre .1 .0)
@@ -26,12 +22,6 @@ mul-y c = omega (arith, c .before .index .ensures, c .before .before .pre .1 .0)
 
 element-set-from-y : tie.Need-element-set-from-y
 element-set-from-y c = omega (arith, c .before .index .ensures, c .before .before .pre .1 .0)
-
-to-back-requires : tie.Need-to-back-requires
-to-back-requires c κs = tt
-
-release-requires : tie.Need-release-requires
-release-requires c κs = tt
 
 choose-requires : tie.Need-choose-requires
 choose-requires c κs =
@@ -56,4 +46,4 @@ returns c =
 pub depleted-spec : {M : Type 1} → statement M
 depleted-spec =
     tie.close
-    (tie.spec index-requires mul-x element-copy-out-x mul-y element-set-from-y to-back-requires release-requires choose-requires returns)
+    (tie.spec (λ _ _. tt) mul-x element-copy-out-x mul-y element-set-from-y (λ _ _. tt) (λ _ _. tt) choose-requires returns)

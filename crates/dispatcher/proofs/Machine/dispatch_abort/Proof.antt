@@ -1,11 +1,10 @@
 -- Each refusal is the first that fits; past them the thread has a link, and the walk begins.
-use mathlib.Core.Path.{refl, sym, _∙_, ap}
+use mathlib.Core.Path.{refl, sym, _∙_}
 use borrow.Author.Tests.{lt-ltb, le-ltb, not-true, not-false}
 use Rattle.rules.specs.declared.Thread.{Thread}
 use Rattle.dispatcher.specs.Shown.{shown}
 use Rattle.rules.specs.declared.Event.the-variants.{Abort}
 use Rattle.rules.specs.Refusals.{linked}
-use Rattle.rules.specs.State.{holdAt}
 use Rattle.rules.specs.Events.{abort}
 use Rattle.dispatcher.proofs.Stored.{sound-stored}
 use Rattle.dispatcher.proofs.Answering.{refuse, accept}
@@ -16,9 +15,6 @@ use Rattle.dispatcher.proofs.Machine.dispatch_abort.Tie as tie
 
 returns : tie.Need-returns
 returns c = refuse _ _ (c .answered .ensures) (rw (lt-ltb _ _ (c .before .if1 .taken)) refl)
-
-index-requires : tie.Need-index-requires
-index-requires c κs = tt
 
 mul-thread : tie.Need-mul-thread
 mul-thread c = search needs
@@ -34,9 +30,6 @@ returns-2 c =
     let m = start .args .t1 in
     let dead = read (λ (t : Thread). t .live) (m .threads) _ _ _ (at-index .index .ensures) (not-true _ (c .before .if2 .taken)) in
     refuse _ _ (c .answered2 .ensures) (rw (le-ltb _ _ (at-if1 .if1 .left), dead) refl)
-
-is-linked-requires : tie.Need-is-linked-requires
-is-linked-requires c κs = tt
 
 returns-3 : tie.Need-returns-3
 returns-3 c =
@@ -72,5 +65,5 @@ returns-4 c =
 pub dispatch-abort-spec : {M : Type 1} → statement M
 dispatch-abort-spec =
     tie.close
-    (tie.spec (λ _ _. tt) returns index-requires mul-thread element-copy-out-thread (λ _ _. tt) returns-2 is-linked-requires (λ _ _. tt)
-    returns-3 abort-walks-requires returns-4)
+    (tie.spec (λ _ _. tt) returns (λ _ _. tt) mul-thread element-copy-out-thread (λ _ _. tt) returns-2 (λ _ _. tt) (λ _ _. tt) returns-3
+    abort-walks-requires returns-4)

@@ -1,7 +1,6 @@
 -- Each refusal is the first that fits; past them the server's hold decides between donation and helping.
-use mathlib.Core.Path.{_≡_, refl, sym, _∙_, ap}
+use mathlib.Core.Path.{refl, sym, _∙_, ap}
 use borrow.Author.Tests.{lt-ltb, le-ltb, eq-eqb, ne-eqb, not-true, not-false}
-use lib.ListN.{length, length-map}
 use Rattle.rules.specs.declared.Thread.{Thread}
 use Rattle.rules.specs.State.{holdAt}
 use Rattle.dispatcher.specs.Shown.{shown}
@@ -86,8 +85,11 @@ is-idle-requires c κs = search needs
 call-donates-requires : tie.Need-call-donates-requires
 call-donates-requires c κs =
     let at-running = c .before .before .before .before .before .before .before .before .before .before .before in
-    let start = at-running .before .before in
-    (choosable _ (sound-stored _ (start .pre)), count-fits (shown (start .args .t1)) _ _ _ (sound-shown _ (start .pre)) (at-running .running .given .1))
+    let start = at-running .before .before in (
+      choosable _ (sound-stored _ (start .pre)),
+      count-fits (shown (start .args .t1)) _ _ _ (sound-shown _ (start .pre))
+          (at-running .running .given .1),
+    )
 
 returns-5 : tie.Need-returns-5
 unfolding call

@@ -27,9 +27,6 @@ enum-known-running c = search needs
 returns : tie.Need-returns
 returns c = refuse _ _ (c .answered2 .ensures) (rw (c .before .before .before .running .given .1, eq-eqb _ _ (c .before .if1 .taken)) refl)
 
-index-requires : tie.Need-index-requires
-index-requires c κs = tt
-
 mul-x : tie.Need-mul-x
 mul-x c =
     let start = c .before .before .before .before .before in
@@ -144,5 +141,5 @@ returns-5 c =
 pub dispatch-charge-spec : {M : Type 1} → statement M
 dispatch-charge-spec =
     tie.close
-    (tie.spec enum-told (λ _ _. tt) enum-known-running (λ _ _. tt) returns index-requires mul-x element-copy-out-x (λ _ _. tt) returns-2
+    (tie.spec enum-told (λ _ _. tt) enum-known-running (λ _ _. tt) returns (λ _ _. tt) mul-x element-copy-out-x (λ _ _. tt) returns-2
     depleted-requires returns-3 mul-y element-set-from-y (λ _ _. tt) returns-4 returns-5)

@@ -3,7 +3,7 @@ use Prim.Native.Nat.{_<_}
 use mathlib.Core.Path.{_≡_, refl, sym, _∙_}
 use native.Mathlib.Omega.{arith}
 use borrow.Author.Tests.{lt-ltb, le-ltb, eq-eqb, ne-eqb, not-true, not-false}
-use lib.ListN.{length, take, length-map}
+use lib.ListN.{length, length-map}
 use lib.Seq.{length-take-le}
 use Rattle.rules.specs.declared.Thread.{Thread}
 use Rattle.dispatcher.specs.Shown.{shown}
@@ -38,9 +38,6 @@ returns c = refuse _ _ (c .answered .ensures) (rw (lt-ltb _ _ (c .before .if1 .t
 returns-2 : tie.Need-returns-2
 returns-2 c = refuse _ _ (c .answered2 .ensures) (rw (le-ltb _ _ (c .before .before .if1 .left), lt-ltb _ _ (c .before .if2 .taken)) refl)
 
-member-requires : tie.Need-member-requires
-member-requires c κs = tt
-
 returns-3 : tie.Need-returns-3
 returns-3 c =
     let at-if2 = c .before .before .before .before in
@@ -51,9 +48,6 @@ returns-3 c =
       sym
           (c .before .before .member .ensures) ∙ c .before .if3 .taken,
     ) refl)
-
-index-requires : tie.Need-index-requires
-index-requires c κs = tt
 
 mul-thread : tie.Need-mul-thread
 mul-thread c = search needs
@@ -78,9 +72,6 @@ returns-4 c =
           ∙ at-if3 .if3 .left,
       dead,
     ) refl)
-
-owns-one-requires : tie.Need-owns-one-requires
-owns-one-requires c κs = tt
 
 returns-5 : tie.Need-returns-5
 returns-5 c =
@@ -124,17 +115,11 @@ returns-6 c =
       eq-eqb _ _ (c .before .if6 .taken),
     ) refl)
 
-index-requires-2 : tie.Need-index-requires-2
-index-requires-2 c κs = tt
-
 mul-new : tie.Need-mul-new
 mul-new c = search needs
 
 element-set-from-new : tie.Need-element-set-from-new
 element-set-from-new c = search needs
-
-index-requires-3 : tie.Need-index-requires-3
-index-requires-3 c κs = tt
 
 element-write-self : tie.Need-element-write-self
 element-write-self c =
@@ -190,6 +175,6 @@ returns-7 c =
 pub dispatch-give-spec : {M : Type 1} → statement M
 dispatch-give-spec =
     tie.close
-    (tie.spec (λ _ _. tt) returns (λ _ _. tt) returns-2 member-requires (λ _ _. tt) returns-3 index-requires mul-thread
-    element-copy-out-thread (λ _ _. tt) returns-4 owns-one-requires (λ _ _. tt) returns-5 (λ _ _. tt) returns-6 index-requires-2 mul-new
-    element-set-from-new index-requires-3 element-write-self add-self overtaken-requires returns-7)
+    (tie.spec (λ _ _. tt) returns (λ _ _. tt) returns-2 (λ _ _. tt) (λ _ _. tt) returns-3 (λ _ _. tt) mul-thread element-copy-out-thread
+    (λ _ _. tt) returns-4 (λ _ _. tt) (λ _ _. tt) returns-5 (λ _ _. tt) returns-6 (λ _ _. tt) mul-new element-set-from-new (λ _ _. tt)
+    element-write-self add-self overtaken-requires returns-7)

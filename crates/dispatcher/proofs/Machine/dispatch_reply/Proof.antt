@@ -57,9 +57,6 @@ returns-2 c =
     (sym (c .before .before .is-server .ensures) ∙ not-true _ (c .before .if2 .taken)) in
     refuse _ _ (c .answered3 .ensures) (rw (at-running .running .given .1, client) refl)
 
-replied-requires : tie.Need-replied-requires
-replied-requires c κs = tt
-
 reply-to-requires : tie.Need-reply-to-requires
 reply-to-requires c κs =
     let start = c .before .before .before .before .before .before .before .before .before .before in
@@ -92,4 +89,4 @@ pub dispatch-reply-spec : {M : Type 1} → statement M
 dispatch-reply-spec =
     tie.close
     (tie.spec enum-told (λ _ _. tt) enum-known-running index-requires (λ _ _. tt) returns mul-thread element-copy-out-thread
-    is-server-requires (λ _ _. tt) returns-2 replied-requires reply-to-requires returns-3 returns-4)
+    is-server-requires (λ _ _. tt) returns-2 (λ _ _. tt) reply-to-requires returns-3 returns-4)

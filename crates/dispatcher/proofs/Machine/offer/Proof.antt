@@ -5,12 +5,6 @@ use Rattle.dispatcher.proofs.Offering.{unsound-refused, sound-dispatche
 use Rattle.dispatcher.proofs.Machine.offer.Statement.{statement}
 use Rattle.dispatcher.proofs.Machine.offer.Tie as tie
 
-is-sound-requires : tie.Need-is-sound-requires
-is-sound-requires c κs = tt
-
-answered-requires : tie.Need-answered-requires
-answered-requires c κs = tt
-
 returns : tie.Need-returns
 returns c =
     let tested = c .before .before in
@@ -25,4 +19,4 @@ returns-2 c =
     sound-dispatched _ _ _ (sym (tested .is-sound .ensures) ∙ not-false _ (c .before .if1 .left)) (c .dispatch .ensures)
 
 pub offer-spec : {M : Type 1} → statement M
-offer-spec = tie.close (tie.spec is-sound-requires answered-requires returns dispatch-requires returns-2)
+offer-spec = tie.close (tie.spec (λ _ _. tt) (λ _ _. tt) returns dispatch-requires returns-2)

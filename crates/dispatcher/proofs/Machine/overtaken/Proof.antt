@@ -1,5 +1,4 @@
 -- What runs decides: nothing, or a timeslice that the new one stands above, leads to a choice.
-use Rattle.dispatcher.proofs.Stored.{turns-fit}
 use Rattle.dispatcher.proofs.Settles.{chose, stayed, over-nothing, over-running}
 use borrow.Author.Needs.{needs}
 use Rattle.dispatcher.proofs.Machine.overtaken.Statement.{statement}
@@ -13,9 +12,6 @@ choose-requires c κs = c .before .before .pre
 
 enum-known-running : tie.Need-enum-known-running
 enum-known-running c = search needs
-
-stands-above-requires : tie.Need-stands-above-requires
-stands-above-requires c κs = tt
 
 choose-requires-2 : tie.Need-choose-requires-2
 choose-requires-2 c κs =
@@ -42,4 +38,4 @@ returns-3 c =
 pub overtaken-spec : {M : Type 1} → statement M
 overtaken-spec =
     tie.close
-    (tie.spec enum-told choose-requires enum-known-running stands-above-requires choose-requires-2 returns (λ _ _. tt) returns-2 returns-3)
+    (tie.spec enum-told choose-requires enum-known-running (λ _ _. tt) choose-requires-2 returns (λ _ _. tt) returns-2 returns-3)

@@ -1,21 +1,14 @@
 -- Nobody was On the thread, or the topmost of them joined Queue.
-use Rattle.dispatcher.proofs.Stored.{turns-fit}
 use Rattle.dispatcher.proofs.Settles.{none-released, one-released, freed-exact}
 use borrow.Author.Needs.{needs}
 use Rattle.dispatcher.proofs.Machine.waiters_released.Statement.{statement}
 use Rattle.dispatcher.proofs.Machine.waiters_released.Tie as tie
-
-topmost-requires : tie.Need-topmost-requires
-topmost-requires c κs = tt
 
 enum-told : tie.Need-enum-told
 enum-told c = search needs
 
 enum-known-first : tie.Need-enum-known-first
 enum-known-first c = search needs
-
-released-requires : tie.Need-released-requires
-released-requires c κs = tt
 
 overtaken-requires : tie.Need-overtaken-requires
 overtaken-requires c κs =
@@ -39,4 +32,4 @@ returns-2 c =
 pub waiters-released-spec : {M : Type 1} → statement M
 waiters-released-spec =
     tie.close
-    (tie.spec topmost-requires enum-told (λ _ _. tt) enum-known-first released-requires overtaken-requires returns returns-2)
+    (tie.spec (λ _ _. tt) enum-told (λ _ _. tt) enum-known-first (λ _ _. tt) overtaken-requires returns returns-2)

@@ -6,18 +6,6 @@ use borrow.Author.Needs.{needs}
 use Rattle.key_sheet.proofs.lines.put_line.Statement.{statement}
 use Rattle.key_sheet.proofs.lines.put_line.Tie as tie
 
-put-columns-requires : tie.Need-put-columns-requires
-put-columns-requires c κs = tt
-
-put-byte-requires : tie.Need-put-byte-requires
-put-byte-requires c κs = tt
-
-put-decimal-requires : tie.Need-put-decimal-requires
-put-decimal-requires c κs = tt
-
-put-byte-requires-2 : tie.Need-put-byte-requires-2
-put-byte-requires-2 c κs = tt
-
 same-length : tie.Need-same-length
 same-length c = search needs
 
@@ -31,4 +19,4 @@ returns c =
     columns .put-columns .ensures then space .put-byte .ensures then links .put-decimal .ensures then feed .put-byte2 .ensures
 
 pub put-line-spec : {M : Type 1} → statement M
-put-line-spec = tie.close (tie.spec put-columns-requires put-byte-requires put-decimal-requires put-byte-requires-2 same-length returns)
+put-line-spec = tie.close (tie.spec (λ _ _. tt) (λ _ _. tt) (λ _ _. tt) (λ _ _. tt) same-length returns)

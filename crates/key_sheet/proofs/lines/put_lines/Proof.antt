@@ -17,17 +17,11 @@ Inv-loop file out₀ machine₀ offset₀ at₀ number₀ out machine offset at 
 abbrev μ-loop : tie.MeasureT-loop
 μ-loop file out₀ machine₀ offset₀ at₀ number₀ out machine offset at number = length file - offset
 
-empty-requires : tie.Need-empty-requires Inv-loop μ-loop
-empty-requires c κs = tt
-
 loop-holds : tie.Need-loop-holds Inv-loop μ-loop
 loop-holds c =
     let start = c .before .before .before in
     begin (now (start .args .file)) (now (start .args .out)) (c .empty .result) (c .empty .ensures)
     (λ i. c .before .before .shared-slice-known .given i .fits) (start .pre)
-
-step-requires : tie.Need-step-requires Inv-loop μ-loop
-step-requires c κs = tt
 
 enum-known-found : tie.Need-enum-known-found Inv-loop μ-loop
 enum-known-found c = search needs
@@ -40,9 +34,6 @@ returns c = let read = c .before in done (read .before .loop .inv) (read .step .
 
 dispatch-requires : tie.Need-dispatch-requires Inv-loop μ-loop
 dispatch-requires c κs = c .before .before .before .before .loop .inv .ahead .sound
-
-put-line-requires : tie.Need-put-line-requires Inv-loop μ-loop
-put-line-requires c κs = tt
 
 add-number : tie.Need-add-number Inv-loop μ-loop
 add-number c =
@@ -75,5 +66,5 @@ loop-again c =
 pub put-lines-spec : {M : Type 1} → statement M
 put-lines-spec =
     tie.close
-    (tie.spec Inv-loop μ-loop empty-requires loop-holds step-requires enum-known-found same-length returns dispatch-requires
-    put-line-requires add-number loop-less loop-again)
+    (tie.spec Inv-loop μ-loop (λ _ _. tt) loop-holds (λ _ _. tt) enum-known-found same-length returns dispatch-requires (λ _ _. tt)
+    add-number loop-less loop-again)

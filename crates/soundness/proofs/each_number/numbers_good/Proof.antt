@@ -15,9 +15,6 @@ abbrev μ-loop : tie.MeasureT-loop
 loop-holds : tie.Need-loop-holds Inv-loop μ-loop
 loop-holds c = none-yet _
 
-number-good-requires : tie.Need-number-good-requires Inv-loop μ-loop
-number-good-requires c κs = tt
-
 add-n : tie.Need-add-n Inv-loop μ-loop
 add-n c = omega arith
 
@@ -36,4 +33,4 @@ returns-2 : tie.Need-returns-2 Inv-loop μ-loop
 returns-2 c = passed-all _ _ (c .before .loop .inv) (c .loop-test .left)
 
 pub numbers-good-spec : {M : Type 1} → statement M
-numbers-good-spec = tie.close (tie.spec Inv-loop μ-loop loop-holds number-good-requires add-n loop-less loop-again returns returns-2)
+numbers-good-spec = tie.close (tie.spec Inv-loop μ-loop loop-holds (λ _ _. tt) add-n loop-less loop-again returns returns-2)

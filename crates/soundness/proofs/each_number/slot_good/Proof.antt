@@ -6,27 +6,6 @@ use Rattle.soundness.proofs.Clauses.{slice-test, place-test, either-tes
 use Rattle.soundness.proofs.each_number.slot_good.Statement.{statement}
 use Rattle.soundness.proofs.each_number.slot_good.Tie as tie
 
-timeslice-at-requires : tie.Need-timeslice-at-requires
-timeslice-at-requires c κs = tt
-
-member-requires : tie.Need-member-requires
-member-requires c κs = tt
-
-slice-free-requires : tie.Need-slice-free-requires
-slice-free-requires c κs = tt
-
-either-requires : tie.Need-either-requires
-either-requires c κs = tt
-
-in-set-requires : tie.Need-in-set-requires
-in-set-requires c κs = tt
-
-either-requires-2 : tie.Need-either-requires-2
-either-requires-2 c κs = tt
-
-both-requires : tie.Need-both-requires
-both-requires c κs = tt
-
 returns : tie.Need-returns
 returns c =
     let queued = c .before in
@@ -41,7 +20,4 @@ returns c =
     (either-test _ _ _ _ _ (queued .either2 .ensures) (listed .member .ensures) place)
 
 pub slot-good-spec : {M : Type 1} → statement M
-slot-good-spec =
-    tie.close
-    (tie.spec timeslice-at-requires member-requires slice-free-requires either-requires in-set-requires either-requires-2 both-requires
-    returns)
+slot-good-spec = tie.close (tie.spec (λ _ _. tt) (λ _ _. tt) (λ _ _. tt) (λ _ _. tt) (λ _ _. tt) (λ _ _. tt) (λ _ _. tt) returns)

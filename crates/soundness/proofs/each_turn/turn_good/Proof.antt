@@ -7,27 +7,6 @@ use Rattle.soundness.proofs.Clauses.{slice-test, both-test}
 use Rattle.soundness.proofs.each_turn.turn_good.Statement.{statement}
 use Rattle.soundness.proofs.each_turn.turn_good.Tie as tie
 
-timeslice-at-requires : tie.Need-timeslice-at-requires
-timeslice-at-requires c κs = tt
-
-thread-at-requires : tie.Need-thread-at-requires
-thread-at-requires c κs = tt
-
-both-requires : tie.Need-both-requires
-both-requires c κs = tt
-
-in-range-requires : tie.Need-in-range-requires
-in-range-requires c κs = tt
-
-both-requires-2 : tie.Need-both-requires-2
-both-requires-2 c κs = tt
-
-place-good-requires : tie.Need-place-good-requires
-place-good-requires c κs = tt
-
-both-requires-3 : tie.Need-both-requires-3
-both-requires-3 c κs = tt
-
 returns : tie.Need-returns
 returns c =
     let ranged = c .before .before in
@@ -44,7 +23,4 @@ returns c =
     (c .before .place-good .ensures)
 
 pub turn-good-spec : {M : Type 1} → statement M
-turn-good-spec =
-    tie.close
-    (tie.spec timeslice-at-requires thread-at-requires both-requires in-range-requires both-requires-2 place-good-requires both-requires-3
-    returns)
+turn-good-spec = tie.close (tie.spec (λ _ _. tt) (λ _ _. tt) (λ _ _. tt) (λ _ _. tt) (λ _ _. tt) (λ _ _. tt) (λ _ _. tt) returns)

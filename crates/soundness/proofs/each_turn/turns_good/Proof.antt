@@ -15,17 +15,11 @@ Inv-loop threads timeslices lives live order n i₀ i = Along (λ l. all (λ t. 
 abbrev μ-loop : tie.MeasureT-loop
 μ-loop threads timeslices lives live order n i₀ i = n - i
 
-entries-requires : tie.Need-entries-requires Inv-loop μ-loop
-entries-requires c κs = tt
-
 loop-holds : tie.Need-loop-holds Inv-loop μ-loop
 loop-holds c = begin _ _ _ _ (c .entries .ensures)
 
 array-read-t : tie.Need-array-read-t Inv-loop μ-loop
 array-read-t c = let inv = c .before .loop .inv in omega (arith, inv .last)
-
-turn-good-requires : tie.Need-turn-good-requires Inv-loop μ-loop
-turn-good-requires c κs = tt
 
 add-i : tie.Need-add-i Inv-loop μ-loop
 add-i c = let inv = c .before .before .before .loop .inv in omega (arith, inv .last)
@@ -55,4 +49,4 @@ returns-2 c =
 pub turns-good-spec : {M : Type 1} → statement M
 turns-good-spec =
     tie.close
-    (tie.spec Inv-loop μ-loop entries-requires loop-holds array-read-t turn-good-requires add-i loop-less loop-again returns returns-2)
+    (tie.spec Inv-loop μ-loop (λ _ _. tt) loop-holds array-read-t (λ _ _. tt) add-i loop-less loop-again returns returns-2)

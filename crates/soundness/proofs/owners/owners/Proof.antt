@@ -19,17 +19,11 @@ Inv-loop timeslices live order listed₀ n i₀ listed i = (n ≡ entriesOf live
 abbrev μ-loop : tie.MeasureT-loop
 μ-loop timeslices live order listed₀ n i₀ listed i = n - i
 
-entries-requires : tie.Need-entries-requires Inv-loop μ-loop
-entries-requires c κs = tt
-
 loop-holds : tie.Need-loop-holds Inv-loop μ-loop
 loop-holds c = let start = c .before in (c .entries .ensures, omega arith, start .good .1 .0 .1 .0 .1, none-mapped _ _ _)
 
 array-read-t : tie.Need-array-read-t Inv-loop μ-loop
 array-read-t c = let inv = c .before .loop .inv in omega (arith, inv .0)
-
-timeslice-at-requires : tie.Need-timeslice-at-requires Inv-loop μ-loop
-timeslice-at-requires c κs = tt
 
 array-write-listed : tie.Need-array-write-listed Inv-loop μ-loop
 array-write-listed c = let inv = c .before .before .loop .inv in omega (arith, inv .0, inv .3 .full)
@@ -56,5 +50,4 @@ returns c =
 pub owners-spec : {M : Type 1} → statement M
 owners-spec =
     tie.close
-    (tie.spec Inv-loop μ-loop entries-requires loop-holds array-read-t timeslice-at-requires array-write-listed add-i loop-less loop-again
-    returns)
+    (tie.spec Inv-loop μ-loop (λ _ _. tt) loop-holds array-read-t (λ _ _. tt) array-write-listed add-i loop-less loop-again returns)

@@ -7,41 +7,17 @@ use borrow.Author.Needs.{needs}
 use Rattle.soundness.proofs.places.place_good.Statement.{statement}
 use Rattle.soundness.proofs.places.place_good.Tie as tie
 
-timeslice-at-requires : tie.Need-timeslice-at-requires
-timeslice-at-requires c κs = tt
-
 enum-told : tie.Need-enum-told
 enum-told c = search needs
 
 enum-known-place : tie.Need-enum-known-place
 enum-known-place c = search needs
 
-behind-good-requires : tie.Need-behind-good-requires
-behind-good-requires c κs = tt
-
 enum-known-place-2 : tie.Need-enum-known-place-2
 enum-known-place-2 c = search needs
 
-walk-requires : tie.Need-walk-requires
-walk-requires c κs = tt
-
-verdict-of-requires : tie.Need-verdict-of-requires
-verdict-of-requires c κs = tt
-
-waits-at-requires : tie.Need-waits-at-requires
-waits-at-requires c κs = tt
-
 enum-told-2 : tie.Need-enum-told-2
 enum-told-2 c = search needs
-
-walk-requires-2 : tie.Need-walk-requires-2
-walk-requires-2 c κs = tt
-
-verdict-of-requires-2 : tie.Need-verdict-of-requires-2
-verdict-of-requires-2 c κs = tt
-
-is-stalls-requires : tie.Need-is-stalls-requires
-is-stalls-requires c κs = tt
 
 returns : tie.Need-returns
 returns c =
@@ -86,5 +62,5 @@ returns-4 c =
 pub place-good-spec : {M : Type 1} → statement M
 place-good-spec =
     tie.close
-    (tie.spec timeslice-at-requires enum-told enum-known-place behind-good-requires enum-known-place-2 walk-requires verdict-of-requires
-    waits-at-requires enum-told-2 walk-requires-2 verdict-of-requires-2 is-stalls-requires returns returns-2 returns-3 returns-4)
+    (tie.spec (λ _ _. tt) enum-told enum-known-place (λ _ _. tt) enum-known-place-2 (λ _ _. tt) (λ _ _. tt) (λ _ _. tt) enum-told-2
+    (λ _ _. tt) (λ _ _. tt) (λ _ _. tt) returns returns-2 returns-3 returns-4)

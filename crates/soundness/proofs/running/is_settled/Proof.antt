@@ -4,20 +4,11 @@ use borrow.Author.Needs.{needs}
 use Rattle.soundness.proofs.running.is_settled.Statement.{statement}
 use Rattle.soundness.proofs.running.is_settled.Tie as tie
 
-topmost-requires : tie.Need-topmost-requires
-topmost-requires c κs = tt
-
 enum-told : tie.Need-enum-told
 enum-told c = search needs
 
-nothing-runs-requires : tie.Need-nothing-runs-requires
-nothing-runs-requires c κs = tt
-
 enum-known-top : tie.Need-enum-known-top
 enum-known-top c = search needs
-
-runs-on-requires : tie.Need-runs-on-requires
-runs-on-requires c κs = tt
 
 returns : tie.Need-returns
 returns c =
@@ -40,4 +31,4 @@ returns-2 c =
     (told .top .given .1) (c .runs-on .ensures)
 
 pub is-settled-spec : {M : Type 1} → statement M
-is-settled-spec = tie.close (tie.spec topmost-requires enum-told nothing-runs-requires enum-known-top runs-on-requires returns returns-2)
+is-settled-spec = tie.close (tie.spec (λ _ _. tt) enum-told (λ _ _. tt) enum-known-top (λ _ _. tt) returns returns-2)

@@ -11,18 +11,6 @@ enum-told c = search needs
 enum-known-running : tie.Need-enum-known-running
 enum-known-running c = search needs
 
-timeslice-at-requires : tie.Need-timeslice-at-requires
-timeslice-at-requires c κs = tt
-
-walk-requires : tie.Need-walk-requires
-walk-requires c κs = tt
-
-verdict-of-requires : tie.Need-verdict-of-requires
-verdict-of-requires c κs = tt
-
-runs-as-requires : tie.Need-runs-as-requires
-runs-as-requires c κs = tt
-
 returns : tie.Need-returns
 returns c =
     let walked = c .before .before in
@@ -44,7 +32,4 @@ returns-3 c =
     current-other (start .args .threads) _ _ _ _ _ _ (c .before .before .running .given .1) (c .if1 .left)
 
 pub runs-on-spec : {M : Type 1} → statement M
-runs-on-spec =
-    tie.close
-    (tie.spec enum-told enum-known-running timeslice-at-requires walk-requires verdict-of-requires runs-as-requires returns returns-2
-    returns-3)
+runs-on-spec = tie.close (tie.spec enum-told enum-known-running (λ _ _. tt) (λ _ _. tt) (λ _ _. tt) (λ _ _. tt) returns returns-2 returns-3)

@@ -1,9 +1,6 @@
 -- A live entry is not asked; past the end of the array stands 0.
-use mathlib.Core.Path.{_≡_, _∙_, refl, sym, ap}
-use Prim.Native.Nat.{ℕ}
-use lib.ListN.{getD}
-use lib.Dec.{eqb}
-use borrow.Author.Tests.{lt-ltb, le-ltb, eq-eqb}
+use mathlib.Core.Path.{refl}
+use borrow.Author.Tests.{lt-ltb, le-ltb}
 use Rattle.tables.proofs.Lookups.{past}
 use borrow.Author.Needs.{needs}
 use Rattle.soundness.proofs.stored_form.entry_free.Statement.{statement}
@@ -11,9 +8,6 @@ use Rattle.soundness.proofs.stored_form.entry_free.Tie as tie
 
 returns : tie.Need-returns
 returns c = simp (lt-ltb _ _ (c .if1 .taken))
-
-index-requires : tie.Need-index-requires
-index-requires c κs = tt
 
 array-read-entry : tie.Need-array-read-entry
 array-read-entry c = search needs
@@ -31,4 +25,4 @@ returns-3 c =
     refl
 
 pub entry-free-spec : {M : Type 1} → statement M
-entry-free-spec = tie.close (tie.spec returns index-requires array-read-entry returns-2 returns-3)
+entry-free-spec = tie.close (tie.spec returns (λ _ _. tt) array-read-entry returns-2 returns-3)

@@ -14,9 +14,6 @@ Inv-loop live order n i₀ i = Along (λ l. distinct l) live order n i
 abbrev μ-loop : tie.MeasureT-loop
 μ-loop live order n i₀ i = n - i
 
-entries-requires : tie.Need-entries-requires Inv-loop μ-loop
-entries-requires c κs = tt
-
 loop-holds : tie.Need-loop-holds Inv-loop μ-loop
 loop-holds c = begin _ _ _ _ (c .entries .ensures)
 
@@ -25,9 +22,6 @@ array-read-t c = let inv = c .before .loop .inv in omega (arith, inv .last)
 
 add-i : tie.Need-add-i Inv-loop μ-loop
 add-i c = let inv = c .before .loop .inv in omega (arith, inv .last)
-
-listed-from-requires : tie.Need-listed-from-requires Inv-loop μ-loop
-listed-from-requires c κs = tt
 
 returns : tie.Need-returns Inv-loop μ-loop
 returns c =
@@ -54,4 +48,4 @@ returns-2 c =
 pub listed-once-spec : {M : Type 1} → statement M
 listed-once-spec =
     tie.close
-    (tie.spec Inv-loop μ-loop entries-requires loop-holds array-read-t add-i listed-from-requires returns loop-less loop-again returns-2)
+    (tie.spec Inv-loop μ-loop (λ _ _. tt) loop-holds array-read-t add-i (λ _ _. tt) returns loop-less loop-again returns-2)

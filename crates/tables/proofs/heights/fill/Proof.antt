@@ -16,9 +16,6 @@ Inv-loop codes₀ heights₀ live timeslices order n next₀ codes heights next 
 abbrev μ-loop : tie.MeasureT-loop
 μ-loop codes₀ heights₀ live timeslices order n next₀ codes heights next = n - next
 
-entries-requires : tie.Need-entries-requires Inv-loop μ-loop
-entries-requires c κs = tt
-
 loop-holds : tie.Need-loop-holds Inv-loop μ-loop
 loop-holds c = fill-none _ _ _ _ _ _ (c .entries .ensures)
 
@@ -28,17 +25,11 @@ add-next c = let inv = c .before .loop .inv in omega (arith, inv .last)
 array-read-t : tie.Need-array-read-t Inv-loop μ-loop
 array-read-t c = let inv = c .before .loop .inv in omega (arith, inv .last)
 
-index-requires : tie.Need-index-requires Inv-loop μ-loop
-index-requires c κs = tt
-
 mul-x : tie.Need-mul-x Inv-loop μ-loop
 mul-x c = search needs
 
 array-copy-out-x : tie.Need-array-copy-out-x Inv-loop μ-loop
 array-copy-out-x c = search needs
-
-code-requires : tie.Need-code-requires Inv-loop μ-loop
-code-requires c κs = tt
 
 mul-codes : tie.Need-mul-codes Inv-loop μ-loop
 mul-codes c =
@@ -116,6 +107,6 @@ returns c = filled _ _ _ _ _ _ _ _ _ (c .before .loop .inv) (c .loop-test .left)
 pub fill-spec : {M : Type 1} → statement M
 fill-spec =
     tie.close
-    (tie.spec Inv-loop μ-loop entries-requires loop-holds add-next array-read-t index-requires mul-x array-copy-out-x code-requires
-    mul-codes element-write-codes height-requires mul-heights element-write-heights loop-less loop-again mul-codes-2 element-write-codes-2
+    (tie.spec Inv-loop μ-loop (λ _ _. tt) loop-holds add-next array-read-t (λ _ _. tt) mul-x array-copy-out-x (λ _ _. tt) mul-codes
+    element-write-codes height-requires mul-heights element-write-heights loop-less loop-again mul-codes-2 element-write-codes-2
     height-requires-2 mul-heights-2 element-write-heights-2 loop-less-2 loop-again-2 returns)

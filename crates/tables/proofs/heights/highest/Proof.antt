@@ -11,9 +11,6 @@ Inv-loop codes heights live set best₀ i₀ best i = Scanned set codes heights 
 abbrev μ-loop : tie.MeasureT-loop
 μ-loop codes heights live set best₀ i₀ best i = i
 
-entries-requires : tie.Need-entries-requires Inv-loop μ-loop
-entries-requires c κs = tt
-
 loop-holds : tie.Need-loop-holds Inv-loop μ-loop
 loop-holds c = seek-none _ _ _ _ _ (c .entries .ensures)
 
@@ -32,12 +29,6 @@ mul-r c = omega (arith, c .before .before .loop .inv .inside)
 element-copy-out-r : tie.Need-element-copy-out-r Inv-loop μ-loop
 element-copy-out-r c = omega (arith, c .before .before .loop .inv .inside)
 
-weight-requires : tie.Need-weight-requires Inv-loop μ-loop
-weight-requires c κs = tt
-
-higher-requires : tie.Need-higher-requires Inv-loop μ-loop
-higher-requires c κs = tt
-
 loop-less : tie.Need-loop-less Inv-loop μ-loop
 loop-less c = omega arith
 
@@ -52,5 +43,5 @@ returns c = sought _ _ _ _ _ _ (c .before .loop .inv) (c .loop-test .left)
 pub highest-spec : {M : Type 1} → statement M
 highest-spec =
     tie.close
-    (tie.spec Inv-loop μ-loop entries-requires loop-holds sub-i mul-c element-copy-out-c mul-r element-copy-out-r weight-requires
-    higher-requires loop-less loop-again returns)
+    (tie.spec Inv-loop μ-loop (λ _ _. tt) loop-holds sub-i mul-c element-copy-out-c mul-r element-copy-out-r (λ _ _. tt) (λ _ _. tt)
+    loop-less loop-again returns)

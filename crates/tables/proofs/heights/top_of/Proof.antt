@@ -4,9 +4,6 @@ use Rattle.tables.proofs.Searches.{some-top, no-top}
 use Rattle.tables.proofs.heights.top_of.Statement.{statement}
 use Rattle.tables.proofs.heights.top_of.Tie as tie
 
-highest-requires : tie.Need-highest-requires
-highest-requires c κs = tt
-
 turn-requires : tie.Need-turn-requires
 turn-requires c κs = c .if1 .taken
 
@@ -20,4 +17,4 @@ returns-2 : tie.Need-returns-2
 returns-2 c = no-top _ _ _ (c .before .highest .ensures) (c .if1 .left)
 
 pub top-of-spec : {M : Type 1} → statement M
-top-of-spec = tie.close (tie.spec highest-requires turn-requires element-copy-out-t returns returns-2)
+top-of-spec = tie.close (tie.spec (λ _ _. tt) turn-requires element-copy-out-t returns returns-2)

@@ -4,15 +4,6 @@ use Rattle.tables.proofs.Searches.{coded-by, top-is}
 use Rattle.tables.proofs.heights.topmost.Statement.{statement}
 use Rattle.tables.proofs.heights.topmost.Tie as tie
 
-fill-requires : tie.Need-fill-requires
-fill-requires c κs = tt
-
-code-requires : tie.Need-code-requires
-code-requires c κs = tt
-
-top-of-requires : tie.Need-top-of-requires
-top-of-requires c κs = tt
-
 returns : tie.Need-returns
 returns c =
     let coded = c .before .before .before .before in
@@ -24,4 +15,4 @@ returns c =
     codes (start .args .set))
 
 pub topmost-spec : {M : Type 1} → statement M
-topmost-spec = tie.close (tie.spec fill-requires code-requires top-of-requires returns)
+topmost-spec = tie.close (tie.spec (λ _ _. tt) (λ _ _. tt) (λ _ _. tt) returns)

@@ -14,9 +14,6 @@ Inv-loop live a b order n i₀ i = Along (λ l. earlierOf l a b) live order n i
 abbrev μ-loop : tie.MeasureT-loop
 μ-loop live a b order n i₀ i = live - i
 
-entries-requires : tie.Need-entries-requires Inv-loop μ-loop
-entries-requires c κs = tt
-
 loop-holds : tie.Need-loop-holds Inv-loop μ-loop
 loop-holds c = begin _ _ _ _ (c .entries .ensures)
 
@@ -59,4 +56,4 @@ returns-3 c =
 pub earlier-spec : {M : Type 1} → statement M
 earlier-spec =
     tie.close
-    (tie.spec Inv-loop μ-loop entries-requires loop-holds array-read-t returns returns-2 add-i loop-less loop-again returns-3)
+    (tie.spec Inv-loop μ-loop (λ _ _. tt) loop-holds array-read-t returns returns-2 add-i loop-less loop-again returns-3)

@@ -14,9 +14,6 @@ Inv-loop live from t order n i₀ i = AlongFrom (λ l. memberOf t l) live order 
 abbrev μ-loop : tie.MeasureT-loop
 μ-loop live from t order n i₀ i = n - i
 
-entries-requires : tie.Need-entries-requires Inv-loop μ-loop
-entries-requires c κs = tt
-
 loop-holds : tie.Need-loop-holds Inv-loop μ-loop
 loop-holds c = begin-at _ _ _ _ _ (c .entries .ensures)
 
@@ -50,6 +47,4 @@ returns-2 c =
     out _ _ _ _ _ (start .good .0 .1 .0 .1) (c .before .loop .inv) (c .loop-test .left)
 
 pub listed-from-spec : {M : Type 1} → statement M
-listed-from-spec =
-    tie.close
-    (tie.spec Inv-loop μ-loop entries-requires loop-holds array-read-u returns add-i loop-less loop-again returns-2)
+listed-from-spec = tie.close (tie.spec Inv-loop μ-loop (λ _ _. tt) loop-holds array-read-u returns add-i loop-less loop-again returns-2)

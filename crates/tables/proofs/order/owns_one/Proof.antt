@@ -20,17 +20,11 @@ Inv-loop live n timeslices order last i₀ i = Along (λ l. someOf (λ t. eqb (o
 abbrev μ-loop : tie.MeasureT-loop
 μ-loop live n timeslices order last i₀ i = live - i
 
-entries-requires : tie.Need-entries-requires Inv-loop μ-loop
-entries-requires c κs = tt
-
 loop-holds : tie.Need-loop-holds Inv-loop μ-loop
 loop-holds c = begin _ _ _ _ (c .entries .ensures)
 
 array-read-t : tie.Need-array-read-t Inv-loop μ-loop
 array-read-t c = omega arith
-
-index-requires : tie.Need-index-requires Inv-loop μ-loop
-index-requires c κs = tt
 
 add-i : tie.Need-add-i Inv-loop μ-loop
 add-i c = omega arith
@@ -95,5 +89,5 @@ returns-3 c =
 pub owns-one-spec : {M : Type 1} → statement M
 owns-one-spec =
     tie.close
-    (tie.spec Inv-loop μ-loop entries-requires loop-holds array-read-t index-requires add-i mul-x array-copy-out-x returns loop-less
-    loop-again returns-2 loop-less-2 loop-again-2 returns-3)
+    (tie.spec Inv-loop μ-loop (λ _ _. tt) loop-holds array-read-t (λ _ _. tt) add-i mul-x array-copy-out-x returns loop-less loop-again
+    returns-2 loop-less-2 loop-again-2 returns-3)

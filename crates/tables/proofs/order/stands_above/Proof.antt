@@ -27,17 +27,11 @@ low c =
     ⊎-elim (λ o. priority-is (start .args .t1) _ _ _ (c .before .index2 .ensures) (o .2))
     (λ o. priority-none (start .args .t1) _ _ _ (start .good .0 .1 .0 .1) (c .before .index2 .ensures) (o .0 .left) (o .1)) (c .if2 .came)
 
-index-requires : tie.Need-index-requires
-index-requires c κs = tt
-
 mul-x : tie.Need-mul-x
 mul-x c = search needs
 
 array-copy-out-x : tie.Need-array-copy-out-x
 array-copy-out-x c = search needs
-
-index-requires-2 : tie.Need-index-requires-2
-index-requires-2 c κs = tt
 
 mul-y : tie.Need-mul-y
 mul-y c = search needs
@@ -47,9 +41,6 @@ array-copy-out-y c = search needs
 
 returns : tie.Need-returns
 returns c = higher _ _ _ _ _ _ (high (c .before)) (low (c .before)) (c .if3 .taken)
-
-earlier-requires : tie.Need-earlier-requires
-earlier-requires c κs = tt
 
 returns-2 : tie.Need-returns-2
 returns-2 c =
@@ -64,4 +55,4 @@ returns-3 c =
 pub stands-above-spec : {M : Type 1} → statement M
 stands-above-spec =
     tie.close
-    (tie.spec index-requires mul-x array-copy-out-x index-requires-2 mul-y array-copy-out-y returns earlier-requires returns-2 returns-3)
+    (tie.spec (λ _ _. tt) mul-x array-copy-out-x (λ _ _. tt) mul-y array-copy-out-y returns (λ _ _. tt) returns-2 returns-3)

@@ -16,9 +16,6 @@ Inv-loop live set first timeslices₀ order n i₀ timeslices i = (n ≡ entries
 abbrev μ-loop : tie.MeasureT-loop
 μ-loop live set first timeslices₀ order n i₀ timeslices i = n - i
 
-entries-requires : tie.Need-entries-requires Inv-loop μ-loop
-entries-requires c κs = tt
-
 loop-holds : tie.Need-loop-holds Inv-loop μ-loop
 loop-holds c = let start = c .before in (c .entries .ensures, begin _ _ _ _ _ (start .good .0 .1 .0 .1))
 
@@ -28,20 +25,11 @@ array-read-t c = omega arith
 add-i : tie.Need-add-i Inv-loop μ-loop
 add-i c = omega arith
 
-index-requires : tie.Need-index-requires Inv-loop μ-loop
-index-requires c κs = tt
-
 mul-x : tie.Need-mul-x Inv-loop μ-loop
 mul-x c = search needs
 
 array-copy-out-x : tie.Need-array-copy-out-x Inv-loop μ-loop
 array-copy-out-x c = search needs
-
-in-set-requires : tie.Need-in-set-requires Inv-loop μ-loop
-in-set-requires c κs = tt
-
-released-one-requires : tie.Need-released-one-requires Inv-loop μ-loop
-released-one-requires c κs = tt
 
 mul-timeslices : tie.Need-mul-timeslices Inv-loop μ-loop
 mul-timeslices c = search needs
@@ -98,6 +86,5 @@ returns c =
 pub released-spec : {M : Type 1} → statement M
 released-spec =
     tie.close
-    (tie.spec Inv-loop μ-loop entries-requires loop-holds array-read-t add-i index-requires mul-x array-copy-out-x in-set-requires
-    released-one-requires mul-timeslices array-set-from-timeslices loop-less loop-again loop-less-2 loop-again-2 loop-less-3 loop-again-3
-    returns)
+    (tie.spec Inv-loop μ-loop (λ _ _. tt) loop-holds array-read-t add-i (λ _ _. tt) mul-x array-copy-out-x (λ _ _. tt) (λ _ _. tt)
+    mul-timeslices array-set-from-timeslices loop-less loop-again loop-less-2 loop-again-2 loop-less-3 loop-again-3 returns)

@@ -7,20 +7,11 @@ use borrow.Author.Needs.{needs}
 use Rattle.tables.proofs.threads.aborted.Statement.{statement}
 use Rattle.tables.proofs.threads.aborted.Tie as tie
 
-index-requires : tie.Need-index-requires
-index-requires c κs = tt
-
 mul-t : tie.Need-mul-t
 mul-t c = search needs
 
 array-copy-out-t : tie.Need-array-copy-out-t
 array-copy-out-t c = search needs
-
-orphaned-requires : tie.Need-orphaned-requires
-orphaned-requires c κs = tt
-
-with-hold-requires : tie.Need-with-hold-requires
-with-hold-requires c κs = tt
 
 returns : tie.Need-returns
 unfolding abortedOf
@@ -35,4 +26,4 @@ returns c =
     rw (orphaned .orphaned .ensures, hold) at (c .with-hold .ensures)
 
 pub aborted-spec : {M : Type 1} → statement M
-aborted-spec = tie.close (tie.spec index-requires mul-t array-copy-out-t orphaned-requires with-hold-requires returns)
+aborted-spec = tie.close (tie.spec (λ _ _. tt) mul-t array-copy-out-t (λ _ _. tt) (λ _ _. tt) returns)

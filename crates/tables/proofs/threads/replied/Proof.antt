@@ -7,23 +7,11 @@ use borrow.Author.Needs.{needs}
 use Rattle.tables.proofs.threads.replied.Statement.{statement}
 use Rattle.tables.proofs.threads.replied.Tie as tie
 
-index-requires : tie.Need-index-requires
-index-requires c κs = tt
-
 mul-t : tie.Need-mul-t
 mul-t c = search needs
 
 array-copy-out-t : tie.Need-array-copy-out-t
 array-copy-out-t c = search needs
-
-freed-requires : tie.Need-freed-requires
-freed-requires c κs = tt
-
-with-hold-requires : tie.Need-with-hold-requires
-with-hold-requires c κs = tt
-
-with-service-requires : tie.Need-with-service-requires
-with-service-requires c κs = tt
 
 returns : tie.Need-returns
 unfolding repliedOf
@@ -38,4 +26,4 @@ returns c =
     rw (c .before .with-hold .ensures, freed .freed .ensures, service) at (c .with-service .ensures)
 
 pub replied-spec : {M : Type 1} → statement M
-replied-spec = tie.close (tie.spec index-requires mul-t array-copy-out-t freed-requires with-hold-requires with-service-requires returns)
+replied-spec = tie.close (tie.spec (λ _ _. tt) mul-t array-copy-out-t (λ _ _. tt) (λ _ _. tt) (λ _ _. tt) returns)

@@ -13,9 +13,6 @@ Inv-loop live t order n i₀ i = (full : length order ≡ 128) × Seeking t live
 abbrev μ-loop : tie.MeasureT-loop
 μ-loop live t order n i₀ i = n - i
 
-entries-requires : tie.Need-entries-requires Inv-loop μ-loop
-entries-requires c κs = tt
-
 loop-holds : tie.Need-loop-holds Inv-loop μ-loop
 loop-holds c = let start = c .before in (start .good .0 .1 .0 .1, seek _ _ _ _ _ (c .entries .ensures))
 
@@ -39,4 +36,4 @@ returns-2 : tie.Need-returns-2 Inv-loop μ-loop
 returns-2 c = let inv = c .before .loop .inv in lost _ _ _ (inv .0) _ _ (inv .1) (c .loop-test .left)
 
 pub position-spec : {M : Type 1} → statement M
-position-spec = tie.close (tie.spec Inv-loop μ-loop entries-requires loop-holds array-read-u returns add-i loop-less loop-again returns-2)
+position-spec = tie.close (tie.spec Inv-loop μ-loop (λ _ _. tt) loop-holds array-read-u returns add-i loop-less loop-again returns-2)

@@ -11,9 +11,6 @@ Inv-loop live from t order₀ n i₀ order i = Shifting t live order₀ from n o
 abbrev μ-loop : tie.MeasureT-loop
 μ-loop live from t order₀ n i₀ order i = n - i
 
-entries-requires : tie.Need-entries-requires Inv-loop μ-loop
-entries-requires c κs = tt
-
 loop-holds : tie.Need-loop-holds Inv-loop μ-loop
 loop-holds c = let start = c .before in shift _ _ _ _ _ (c .entries .ensures) (start .pre) (start .good .0 .1 .0 .1)
 
@@ -47,5 +44,5 @@ returns c = close _ _ _ _ _ _ _ (c .before .loop .inv) (c .loop-test .left)
 pub shifted-spec : {M : Type 1} → statement M
 shifted-spec =
     tie.close
-    (tie.spec Inv-loop μ-loop entries-requires loop-holds add-loop add-u array-read-u array-write-order add-i loop-less loop-again
+    (tie.spec Inv-loop μ-loop (λ _ _. tt) loop-holds add-loop add-u array-read-u array-write-order add-i loop-less loop-again
     array-write-order-2 returns)

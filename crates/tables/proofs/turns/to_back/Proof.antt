@@ -1,15 +1,8 @@
 -- Where the timeslice stands it is struck out and put last; where it is not listed nothing moves.
-use mathlib.Core.Path.{sym}
 use native.Mathlib.Omega.{arith}
 use Rattle.tables.proofs.Shifts.{turned, unturned}
 use Rattle.tables.proofs.turns.to_back.Statement.{statement}
 use Rattle.tables.proofs.turns.to_back.Tie as tie
-
-position-requires : tie.Need-position-requires
-position-requires c κs = tt
-
-entries-requires : tie.Need-entries-requires
-entries-requires c κs = tt
 
 shifted-requires : tie.Need-shifted-requires
 shifted-requires c κs = omega (arith, c .before .entries .ensures, c .if1 .taken)
@@ -26,4 +19,4 @@ returns-2 c =
     unturned _ _ _ _ (omega (arith, sought .entries .ensures, c .if1 .left)) (sought .before .position .ensures)
 
 pub to-back-spec : {M : Type 1} → statement M
-to-back-spec = tie.close (tie.spec position-requires entries-requires shifted-requires returns returns-2)
+to-back-spec = tie.close (tie.spec (λ _ _. tt) (λ _ _. tt) shifted-requires returns returns-2)

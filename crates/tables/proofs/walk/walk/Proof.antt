@@ -22,9 +22,6 @@ abbrev μ-loop : tie.MeasureT-loop
 loop-holds : tie.Need-loop-holds Inv-loop μ-loop
 loop-holds c = start _ _ _
 
-index-requires : tie.Need-index-requires Inv-loop μ-loop
-index-requires c κs = tt
-
 returns : tie.Need-returns Inv-loop μ-loop
 returns c =
     let start = c .before .before .before .before in
@@ -89,5 +86,5 @@ returns-3 c = out _ _ _ _ _ (c .before .loop .inv) (c .loop-test .left)
 pub walk-spec : {M : Type 1} → statement M
 walk-spec =
     tie.close
-    (tie.spec Inv-loop μ-loop loop-holds index-requires returns mul-thread array-copy-out-thread enum-known-hold add-links add-count
-    loop-less loop-again enum-known-hold-2 add-links-2 loop-less-2 loop-again-2 returns-2 returns-3)
+    (tie.spec Inv-loop μ-loop loop-holds (λ _ _. tt) returns mul-thread array-copy-out-thread enum-known-hold add-links add-count loop-less
+    loop-again enum-known-hold-2 add-links-2 loop-less-2 loop-again-2 returns-2 returns-3)

@@ -6,21 +6,6 @@ use borrow.Author.Needs.{needs}
 use Rattle.text.proofs.columns.put_columns.Statement.{statement}
 use Rattle.text.proofs.columns.put_columns.Tie as tie
 
-put-column-requires : tie.Need-put-column-requires
-put-column-requires c κs = tt
-
-put-verdict-requires : tie.Need-put-verdict-requires
-put-verdict-requires c κs = tt
-
-put-byte-requires : tie.Need-put-byte-requires
-put-byte-requires c κs = tt
-
-put-column-requires-2 : tie.Need-put-column-requires-2
-put-column-requires-2 c κs = tt
-
-put-running-requires : tie.Need-put-running-requires
-put-running-requires c κs = tt
-
 same-length : tie.Need-same-length
 same-length c = search needs
 
@@ -38,6 +23,4 @@ returns c =
     then refusal .put-column2 .ensures then running .put-running .ensures)
 
 pub put-columns-spec : {M : Type 1} → statement M
-put-columns-spec =
-    tie.close
-    (tie.spec put-column-requires put-verdict-requires put-byte-requires put-column-requires-2 put-running-requires same-length returns)
+put-columns-spec = tie.close (tie.spec (λ _ _. tt) (λ _ _. tt) (λ _ _. tt) (λ _ _. tt) (λ _ _. tt) same-length returns)

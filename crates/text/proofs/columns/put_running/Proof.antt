@@ -12,29 +12,17 @@ enum-told c = search needs
 slice-aggregate-put-bytes : tie.Need-slice-aggregate-put-bytes
 slice-aggregate-put-bytes c = search needs
 
-put-bytes-requires : tie.Need-put-bytes-requires
-put-bytes-requires c κs = tt
-
 enum-known-running : tie.Need-enum-known-running
 enum-known-running c = search needs
 
 cast-put-column : tie.Need-cast-put-column
 cast-put-column c = search needs
 
-put-column-requires : tie.Need-put-column-requires
-put-column-requires c κs = tt
-
 cast-put-column-2 : tie.Need-cast-put-column-2
 cast-put-column-2 c = search needs
 
-put-column-requires-2 : tie.Need-put-column-requires-2
-put-column-requires-2 c κs = tt
-
 cast-put-decimal : tie.Need-cast-put-decimal
 cast-put-decimal c = search needs
-
-put-decimal-requires : tie.Need-put-decimal-requires
-put-decimal-requires c κs = tt
 
 same-length : tie.Need-same-length
 same-length c = search needs
@@ -57,5 +45,5 @@ returns-2 c =
 pub put-running-spec : {M : Type 1} → statement M
 put-running-spec =
     tie.close
-    (tie.spec enum-told slice-aggregate-put-bytes put-bytes-requires enum-known-running cast-put-column put-column-requires
-    cast-put-column-2 put-column-requires-2 cast-put-decimal put-decimal-requires same-length returns same-length-2 returns-2)
+    (tie.spec enum-told slice-aggregate-put-bytes (λ _ _. tt) enum-known-running cast-put-column (λ _ _. tt) cast-put-column-2 (λ _ _. tt)
+    cast-put-decimal (λ _ _. tt) same-length returns same-length-2 returns-2)

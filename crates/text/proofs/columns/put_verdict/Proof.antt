@@ -9,9 +9,6 @@ use Rattle.text.proofs.columns.put_verdict.Tie as tie
 slice-aggregate-put-bytes : tie.Need-slice-aggregate-put-bytes
 slice-aggregate-put-bytes c = search needs
 
-put-bytes-requires : tie.Need-put-bytes-requires
-put-bytes-requires c κs = tt
-
 same-length : tie.Need-same-length
 same-length c = search needs
 
@@ -21,9 +18,6 @@ returns c = rw (c .before .before .before .before .before .if1 .taken) (c .befor
 
 slice-aggregate-put-bytes-2 : tie.Need-slice-aggregate-put-bytes-2
 slice-aggregate-put-bytes-2 c = search needs
-
-put-bytes-requires-2 : tie.Need-put-bytes-requires-2
-put-bytes-requires-2 c κs = tt
 
 same-length-2 : tie.Need-same-length-2
 same-length-2 c = search needs
@@ -38,5 +32,4 @@ returns-2 c =
 pub put-verdict-spec : {M : Type 1} → statement M
 put-verdict-spec =
     tie.close
-    (tie.spec slice-aggregate-put-bytes put-bytes-requires same-length returns slice-aggregate-put-bytes-2 put-bytes-requires-2
-    same-length-2 returns-2)
+    (tie.spec slice-aggregate-put-bytes (λ _ _. tt) same-length returns slice-aggregate-put-bytes-2 (λ _ _. tt) same-length-2 returns-2)
