@@ -10,3 +10,4 @@ pub mod TimesliceChanges
 pub mod Offering
 pub mod OneForm
 pub mod Runs
+pub mod Demands

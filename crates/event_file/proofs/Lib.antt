@@ -1,6 +1,7 @@
--- What the functions' proofs share: the code's answers as document 01 has them, then what the walks over a reader struct need.
+-- What the proofs of the functions share, what the walks over a reader struct need, and the theorem about the code.
 pub mod Shapes
 pub mod Reading
 pub mod Cursor
 pub mod HeldFile
 pub mod Loan
+pub mod Demand

@@ -6,11 +6,11 @@ use libc::STDOUT_FILENO;
 use rules::Event;
 use rules::Role;
 
-pub fn say(text: &[u8]) {
+pub(crate) fn say(text: &[u8]) {
     io::write_all(STDOUT_FILENO, text);
 }
 
-pub fn number(label: &[u8], n: usize) {
+pub(crate) fn number(label: &[u8], n: usize) {
     say(label);
     io::print_decimal(STDOUT_FILENO, n as u64);
 }
@@ -22,7 +22,7 @@ fn role(role: Role) {
     }
 }
 
-pub fn event(event: Event) {
+pub(crate) fn event(event: Event) {
     match event {
         Event::Create { thread, role: side } => {
             number(b"create thread ", thread as usize);
@@ -48,7 +48,7 @@ pub fn event(event: Event) {
     }
 }
 
-pub fn found(found: Found) {
+pub(crate) fn found(found: Found) {
     match found {
         Found::Record(e) => event(e),
         Found::End => say(b"end"),
@@ -57,13 +57,13 @@ pub fn found(found: Found) {
     say(b"\n");
 }
 
-pub fn opened(o: Opened) {
+pub(crate) fn opened(o: Opened) {
     number(b"refusal ", o.refusal as usize);
     number(b", offset ", o.offset);
     say(b"\n");
 }
 
-pub fn written(w: Written) {
+pub(crate) fn written(w: Written) {
     number(b"refusal ", w.refusal as usize);
     number(b", filled ", w.filled);
     say(b"\n");

@@ -3,6 +3,7 @@
 use Prim.Native.Nat.{ℕ, zero, suc}
 use mathlib.Core.List.{List, [], _∷_}
 use mathlib.Core.Bool.{Bool, true, false}
+use mathlib.Core.Option.{Option, none, some}
 use lib.ListN.{length, getD, replicate}
 use Rattle.rules.specs.declared.Role.the-variants.{Client}
 use Rattle.rules.specs.declared.Hold.{Hold}
@@ -116,6 +117,19 @@ runningThread (Runs n t c) = n
 abbrev pub currentTimeslice : Running → ℕ
 currentTimeslice Nothing = 0
 currentTimeslice (Runs n t c) = t
+
+-- the values of what runs: "The paying timeslice is the current one, none while nothing runs", and the count is 0 then
+abbrev pub whoRuns : Running → Option ℕ
+whoRuns Nothing = none
+whoRuns (Runs n t c) = some n
+
+abbrev pub whoPays : Running → Option ℕ
+whoPays Nothing = none
+whoPays (Runs n t c) = some t
+
+abbrev pub donationCount : Running → ℕ
+donationCount Nothing = 0
+donationCount (Runs n t c) = c
 
 -- a machine with one part changed
 abbrev pub withThreads : List Thread → State → State

@@ -92,7 +92,7 @@ pub struct Chain {
     pub helper: u8,
 }
 
-// The eight events, each with the operands of its record in an event file.
+// The events, each with the operands of its record in an event file.
 pub enum Event {
     Create {
         thread: u8,

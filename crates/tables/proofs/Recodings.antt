@@ -150,7 +150,7 @@ pub record Freed (s : Place) (ts : List Timeslice) (order : List ℕ) (live : �
   pub replaced : Replaced ts (placesAfter (setOf s) (map sliceOf ts) (take live order) (map placeOf ts)) us
   pub coded : Coded us order live codes heights
 
--- a release of the set whose search soughtOf f: an empty set changes nothing
+-- a release of the set whose search found f: an empty set changes nothing
 module _ (ts : List Timeslice) (order : List ℕ) (live : ℕ) (codes after heights : List ℕ) (s : Place) (f : Sought)
     (full : length order ≡ 128)
     (r : Coded ts order live codes heights) (e : soughtOf f ≡ topOf order (highest (codeOf s) codes heights 0 (entriesOf live)))

@@ -92,7 +92,7 @@ release-is at s = go (topmostAt at s)
     go none = refl
     go (some q) = refl
 
--- a search that soughtOf nothing, or the topmost one
+-- a search that found nothing, or the topmost one
 module _ (at : Place → Bool) (ss : List Slice) (order : List ℕ) (ps : List Place) (f : Sought)
     (e : soughtOf f ≡ topmost ss (λ t. at (placeAt ps t)) order) where
   pub nobody : f ≡ Nothing → ps ≡ placesAfter at ss order ps

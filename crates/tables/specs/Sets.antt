@@ -21,7 +21,7 @@ setOf (Behind t) = behind t
 setOf (On n) = onThread n
 setOf Stalled = stalled
 
--- what a search soughtOf
+-- what a search found
 abbrev pub soughtOf : Sought → Option ℕ
 soughtOf Nothing = none
 soughtOf (At t) = some t

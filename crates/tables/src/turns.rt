@@ -4,7 +4,7 @@ ghost use Rattle.tables.specs.Turning.{entriesOf, Position, Shifted, Tur
 use crate::numbers::entries;
 
 // Where a timeslice stands first; the number of live entries where it is not listed.
-pub fn position(order: [u8; 128], live: u8, t: u8) -> usize
+pub(crate) fn position(order: [u8; 128], live: u8, t: u8) -> usize
     ensures { λ r. ⌜ Position t live order r ⌝ }
 {
     let n = entries(live);

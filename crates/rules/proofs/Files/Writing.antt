@@ -1,4 +1,4 @@
--- Writing: each answer of the code is the definition's.
+-- Writing: what an append answers, by the test of document 01 that decides it.
 use Prim.Native.Nat.{ℕ, zero, suc, _+_, _-_, _<_, _≤_}
 use mathlib.Core.Path.{_≡_, refl, ap, sym, subst, _∙_}
 use mathlib.Core.List.{List, [], _∷_}
