@@ -12,8 +12,8 @@ use Rattle.rules.specs.Refusals.{refusal}
 use Rattle.rules.specs.Events.{midway, settle, dispatchAfter}
 use Rattle.rules.specs.Events as events
 use Rattle.rules.specs.Plain.{plainOffer, emptyPlain}
-use Rattle.rules.specs.Lists.{fits, allFit, linksOf}
-use Rattle.rules.proofs.Basics.Views.{Two, yes-true, no-false, two, and-true-left, and-true-right}
+use Rattle.rules.specs.Lists.{GiveRanged, AllRanged, linksOf}
+use Rattle.rules.proofs.Basics.Views.{Two, yes-true, no-false, two}
 use Rattle.rules.proofs.Soundness.Places.{sound-of}
 use Rattle.rules.proofs.Events.Hands.{linkLimit}
 use Rattle.rules.proofs.Agreement.{agrees}
@@ -55,7 +55,7 @@ unfolding events.dispatch
 answer-links true e s n = links-after (refusal e (forget s)) e s n
 answer-links false e s n = refl
 
-pub demand-1 : (e : Event) (m : Machine) (r : Answered) → fits e ≡ true → Answers (answerTo e m) m r → Ends e m r
+pub demand-1 : (e : Event) (m : Machine) (r : Answered) → GiveRanged e → Answers (answerTo e m) m r → Ends e m r
 demand-1 e m r f a =
     let number : r .refusal ≡ firstRefusal e m = a .refusal ∙ answer-number (soundMachine m) e (shown m) in
     record {
@@ -109,22 +109,21 @@ AllSame (e ∷ es) (r ∷ rs) s p = Same e r s p × AllSame es rs (events.offer 
 
 -- one claim about the whole list, of all kinds and refused ones included: from every sound machine, and from `Machine::empty()`
 pub record Equal : Type 0 where
-  pub from-sound : {m : Machine} {es : List Event} {rs : List Answered} → Runs m es rs → allFit es ≡ true → soundMachine m ≡ true
+  pub from-sound : {m : Machine} {es : List Event} {rs : List Answered} → Runs m es rs → AllRanged es → soundMachine m ≡ true
       → AllSame es rs (shown m) (forget (shown m))
-  pub from-empty : {es : List Event} {rs : List Answered} → Runs emptyMachine es rs → allFit es ≡ true → AllSame es rs empty emptyPlain
+  pub from-empty : {es : List Event} {rs : List Answered} → Runs emptyMachine es rs → AllRanged es → AllSame es rs empty emptyPlain
 
-same-from : {m : Machine} {es : List Event} {rs : List Answered} → Runs m es rs → allFit es ≡ true → soundMachine m ≡ true
+same-from : {m : Machine} {es : List Event} {rs : List Answered} → Runs m es rs → AllRanged es → soundMachine m ≡ true
     → AllSame es rs (shown m) (forget (shown m))
-unfolding allFit
 same-from stops f h = tt
 same-from (steps {m = m} {e = e} {es = es} {r = r} {rs = rs} a rest) f h =
-    let fit = and-true-left (fits e) (allFit es) f in
+    let fit = f .0 in
     let z = agrees e (shown m) (sound-of (shown m) (sound-shown m h)) fit in
     let o = as-offered e m h in
     let state : shown (r .machine) ≡ events.offer e (shown m) .state = a .state ∙ ap (λ (w : events.Answered). w .state) o in
     let links : r .links ≡ events.offer e (shown m) .links = a .links ∙ ap (λ (w : events.Answered). w .links) o in
     let plain : forget (shown (r .machine)) ≡ plainOffer e (forget (shown m)) .plain = ap forget state ∙ z .plain in
-    let later = same-from rest (and-true-right (fits e) (allFit es) f) (answered-sound e m r fit h a) in (
+    let later = same-from rest (f .1) (answered-sound e m r fit h a) in (
       record {
         refusal = a .refusal ∙ ap (λ (w : events.Answered). w .refusal) o ∙ z .refusal;
         thread = ap (λ (p : Plain). whoRuns (p .running)) plain;

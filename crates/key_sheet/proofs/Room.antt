@@ -12,6 +12,7 @@ use Rattle.rules.specs.Key.{keyAfter, key}
 use Rattle.rules.proofs.Demands.{empty-sound}
 use Rattle.rules.proofs.Bounds.{run-narrow, run-length, refusal-small}
 use Rattle.rules.proofs.Soundness.Places.{sound-of}
+use Rattle.rules.proofs.Files.Records.{all-ranged}
 use Rattle.rules.proofs.Files.Accepting.{accepted}
 use Rattle.rules.proofs.Files.Inverse.{events-fit, events-most}
 use Rattle.key_sheet.proofs.Lengths.{lines-length, file-line-length}
@@ -23,7 +24,7 @@ fits-after zero file bytes h =
     let answers = run-length (eventsOf file) empty in
     let small = accepted file h .head .small in
     let most =
-    lines-length 1 (run (eventsOf file) empty) (run-narrow (eventsOf file) empty (events-fit file bytes) (sound-of empty empty-sound))
+    lines-length 1 (run (eventsOf file) empty) (run-narrow (eventsOf file) empty (all-ranged (eventsOf file) (events-fit file bytes)) (sound-of empty empty-sound))
     (omega arith) in
     omega arith
 fits-after (suc n) file bytes h = omega (arith, file-line-length (suc n) (omega (arith, refusal-small file)))

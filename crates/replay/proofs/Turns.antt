@@ -4,7 +4,7 @@ use Prim.Native.Nat.{ℕ, _≤_, _<_}
 use native.Mathlib.Omega.{arith}
 use mathlib.Core.Path.{_≡_, refl, sym, ap, _∙_}
 use mathlib.Core.List.{List, [], _∷_}
-use mathlib.Core.Bool.{Bool, true, false, _&&_}
+use mathlib.Core.Bool.{Bool, true, false}
 use mathlib.Core.Logic.{⊎-elim}
 use mathlib.Core.Option.{some}
 use types.Run.{OneOf}
@@ -16,12 +16,13 @@ use Rattle.rules.specs.declared.Event.{Event}
 use Rattle.rules.specs.State.{empty}
 use Rattle.rules.specs.Sound.{sound}
 use Rattle.rules.specs.Events as events
-use Rattle.rules.specs.Lists.{fits, allFit, run}
+use Rattle.rules.specs.Lists.{AllRanged, run}
 use Rattle.rules.specs.EventFile.{Bytes, eventsAfter, fileRefusal, eventsOf, event, end, bad, Stepped, stepped}
 use Rattle.rules.specs.EventFile as file
-use Rattle.rules.proofs.Basics.Views.{Two, yes-true, no-false, two, clash, and-true-left, and-true-right}
+use Rattle.rules.proofs.Basics.Views.{Two, yes-true, no-false, two, clash, and-true-right}
 use Rattle.rules.proofs.Agreement.{offer-sound}
 use Rattle.rules.proofs.Files.Accepting.{accepted}
+use Rattle.rules.proofs.Files.Records.{all-ranged}
 use Rattle.rules.proofs.Files.Inverse.{events-fit}
 use Rattle.rules.proofs.Files.Stepping.{ahead, stepped-end}
 use Rattle.event_file.specs.declared.reader.Found.{Found}
@@ -40,7 +41,7 @@ pub record Ahead (bytes : List ℕ) (offset : ℕ) (m : Machine) (answers : List
   pub reads : eventsAfter 0 (drop offset bytes) ≡ some events
   pub low : 5 ≤ offset
   pub inside : offset ≤ length bytes
-  pub fit : allFit events ≡ true
+  pub ranged : AllRanged events
   pub sound : soundMachine m ≡ true
   pub answered : run events (shown m) ≡ answers
 
@@ -59,7 +60,7 @@ begins bytes m e narrow h =
       reads = a .records;
       low = omega arith;
       inside = a .head .five;
-      fit = events-fit bytes narrow;
+      ranged = all-ranged (eventsOf bytes) (events-fit bytes narrow);
       sound = empty-machine-sound;
       answered = refl;
     }
@@ -110,7 +111,7 @@ module _ {bytes : List ℕ} {offset : ℕ} {m : Machine} {answers : List events.
   module _ {e : Event} {to : ℕ} {r : Answered} (found : event e ≡ stepped bytes offset .found) (moved : to ≡ stepped bytes offset .offset)
       (given : Answers (events.dispatch e (shown m)) m r) where
     inside-next : offset < length bytes → Next bytes offset to answers r
-    unfolding run allFit soundMachine
+    unfolding run soundMachine
     inside-next h =
         let n = ahead bytes offset (a .events) (a .low) h (a .reads) in
         let rest = n .rest in
@@ -118,7 +119,7 @@ module _ {bytes : List ℕ} {offset : ℕ} {m : Machine} {answers : List events.
         let found-next = found ∙ ap (λ (s : Stepped). s .found) (n .step) in
         let same : e ≡ n .next = cc in
         let split : a .events ≡ e ∷ rest = n .split ∙ ap (λ (x : Event). x ∷ rest) (sym same) in
-        let fit : (fits e && allFit rest) ≡ true = rw split at (a .fit) in
+        let ranged : AllRanged (e ∷ rest) = rw split at (a .ranged) in
         let shows = and-true-right (stored m) (sound (shown m)) (a .sound) in
         let answer : events.offer e (shown m) ≡ answerOf r = offer-sound e (shown m) shows ∙ sym (answer-of given) in
         let first = ap (λ (x : events.Answered). x ∷ run rest (x .state)) answer in
@@ -131,8 +132,8 @@ module _ {bytes : List ℕ} {offset : ℕ} {m : Machine} {answers : List events.
                 reads = rw (moved ∙ at) (n .reads);
                 low = omega (arith, a .low, moved, at);
                 inside = omega (arith, n .inside, moved, at);
-                fit = and-true-right (fits e) (allFit rest) fit;
-                sound = dispatched-sound e m r (and-true-left (fits e) (allFit rest) fit) (a .sound) given;
+                ranged = ranged .1;
+                sound = dispatched-sound e m r (ranged .0) (a .sound) given;
                 answered = refl;
               };
           further = omega (arith, moved, at);

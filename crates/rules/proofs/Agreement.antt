@@ -10,7 +10,7 @@ use Rattle.rules.specs.Sound.{sound}
 use Rattle.rules.specs.Refusals.{refusal}
 use Rattle.rules.specs.Events.{Answered, midway, dispatchAfter, dispatch, offer}
 use Rattle.rules.specs.Plain.{PlainAnswered, update, plainOfferAfter, plainOffer}
-use Rattle.rules.specs.EventFile.{fits}
+use Rattle.rules.specs.Lists.{GiveRanged}
 use Rattle.rules.proofs.Soundness.Places.{Sound, of-sound}
 use Rattle.rules.proofs.Events.Hands.{linkLimit, Handed, accepts}
 use Rattle.rules.proofs.Events.CreateEvent.{create-handed}
@@ -23,9 +23,9 @@ use Rattle.rules.proofs.Events.ChargeEvent.{charge-handed}
 use Rattle.rules.proofs.Events.AbortEvent.{abort-handed}
 
 -- all kinds of event: a further kind is one more line
-handed : (e : Event) (s : State) → Sound s → fits e ≡ true → refusal e (forget s) ≡ 0 → Handed s (midway e s) (update e (forget s))
+handed : (e : Event) (s : State) → Sound s → GiveRanged e → refusal e (forget s) ≡ 0 → Handed s (midway e s) (update e (forget s))
 handed (Create n r) s x f k = create-handed s x n r k
-handed (Give t n priority quantum) s x f k = give-handed s x t n priority quantum f k
+handed (Give t n priority quantum) s x f k = give-handed s x t n priority quantum (f t n priority quantum refl) k
 handed (Call server) s x f k = call-handed s x server k
 handed Reply s x f k = reply-handed s x k
 handed Block s x f k = block-handed s x k
@@ -40,14 +40,14 @@ pub record Agrees (s : State) (a : Answered) (b : PlainAnswered) : Type 0 where
   pub refusal : a .refusal ≡ b .refusal
   pub links : a .links ≤ linkLimit (forget s)
 
-agrees-after : (e : Event) (s : State) → Sound s → fits e ≡ true → (k : ℕ) → refusal e (forget s) ≡ k
+agrees-after : (e : Event) (s : State) → Sound s → GiveRanged e → (k : ℕ) → refusal e (forget s) ≡ k
     → Agrees s (dispatchAfter k e s) (plainOfferAfter k e (forget s))
 agrees-after e s x f zero q =
     let a = accepts s (midway e s) (update e (forget s)) (handed e s x f q) in
     record { sound = a .sound; plain = a .plain; refusal = refl; links = a .links }
 agrees-after e s x f (suc k) q = record { sound = x; plain = refl; refusal = refl; links = omega arith }
 
-pub agrees-dispatch : (e : Event) (s : State) → Sound s → fits e ≡ true → Agrees s (dispatch e s) (plainOffer e (forget s))
+pub agrees-dispatch : (e : Event) (s : State) → Sound s → GiveRanged e → Agrees s (dispatch e s) (plainOffer e (forget s))
 unfolding dispatch plainOffer
 agrees-dispatch e s x f = agrees-after e s x f (refusal e (forget s)) refl
 
@@ -56,5 +56,5 @@ pub offer-sound : (e : Event) (s : State) → sound s ≡ true → offer e s ≡
 unfolding offer
 offer-sound e s h = rw h
 
-pub agrees : (e : Event) (s : State) → Sound s → fits e ≡ true → Agrees s (offer e s) (plainOffer e (forget s))
+pub agrees : (e : Event) (s : State) → Sound s → GiveRanged e → Agrees s (offer e s) (plainOffer e (forget s))
 agrees e s x f = rw (offer-sound e s (of-sound s x)) (agrees-dispatch e s x f)

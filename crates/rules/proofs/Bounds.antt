@@ -21,9 +21,8 @@ use Rattle.rules.specs.Walk.{Link, noLinks}
 use Rattle.rules.specs.Refusals.{_gives_else_, refusal}
 use Rattle.rules.specs.Events.{Answered, dispatchAfter, dispatch, offerIf, offer}
 use Rattle.rules.specs.Sound.{sound}
-use Rattle.rules.specs.Lists.{run}
-use Rattle.rules.specs.EventFile.{headRefusal, fileRefusalAfter, fileRefusal, fits, allFit}
-use Rattle.rules.proofs.Basics.Views.{and-true-left, and-true-right}
+use Rattle.rules.specs.Lists.{AllRanged, run}
+use Rattle.rules.specs.EventFile.{headRefusal, fileRefusalAfter, fileRefusal}
 use Rattle.rules.proofs.Basics.Members.{member-here, member-there, distinct-head, distinct-tail, distinct-cons, each, image-of}
 use Rattle.rules.proofs.Basics.Members.{map-distinct}
 use Rattle.rules.proofs.Tables.Writes.{starting, within}
@@ -165,17 +164,17 @@ links-most s x =
     mul-le-mul live timeslices
 
 -- every answer of a list of events
-pub run-narrow : (es : List Event) (s : State) → allFit es ≡ true → Sound s → AllNarrow (run es s)
-unfolding run allFit
+pub run-narrow : (es : List Event) (s : State) → AllRanged es → Sound s → AllNarrow (run es s)
+unfolding run
 run-narrow [] s f x = tt
 run-narrow (e ∷ es) s f x =
-    let a = agrees e s x (and-true-left (fits e) (allFit es) f) in (
+    let a = agrees e s x (f .0) in (
       record {
         refusal = omega (arith, offer-most e s);
         running = runs-narrow (offer e s .state) (a .sound) (offer e s .state .running) refl;
         links = omega (arith, a .links, links-most s x);
       },
-      run-narrow es (offer e s .state) (and-true-right (fits e) (allFit es) f) (a .sound),
+      run-narrow es (offer e s .state) (f .1) (a .sound),
     )
 
 -- as many answers as events

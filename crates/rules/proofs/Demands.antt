@@ -10,17 +10,17 @@ use Rattle.rules.specs.Sound.{sound}
 use Rattle.rules.specs.Refusals.{refusal}
 use Rattle.rules.specs.Events.{Answered, dispatchAfter, dispatch, offerIf, offer}
 use Rattle.rules.specs.Plain.{PlainAnswered, emptyPlain, plainOffer}
-use Rattle.rules.specs.Lists.{run, plainRun, Seen, seen, plainSeen, linksOf}
-use Rattle.rules.specs.EventFile.{Bytes, fileRefusal, eventsOf, fits, allFit}
+use Rattle.rules.specs.Lists.{GiveRanged, AllRanged, run, plainRun, Seen, seen, plainSeen, linksOf}
+use Rattle.rules.specs.EventFile.{Bytes, fileRefusal, eventsOf}
 use Rattle.rules.specs.Key.{bytes, columns, shortLines, shortKeyAfter, shortKey, plainLines, plainKeyAfter, plainKey}
 use Rattle.rules.proofs.Computing.{computing}
-use Rattle.rules.proofs.Basics.Views.{and-true-left, and-true-right}
 use Rattle.rules.proofs.Soundness.Places.{sound-of, of-sound}
 use Rattle.rules.proofs.Agreement.{Agrees, agrees}
+use Rattle.rules.proofs.Files.Records.{all-ranged}
 use Rattle.rules.proofs.Files.Inverse.{events-fit}
 
 -- DEMAND 1, accepted. From every sound machine every accepted event gives a sound machine.
-pub accepted-sound : (e : Event) (s : State) → fits e ≡ true → sound s ≡ true → sound (offer e s .state) ≡ true
+pub accepted-sound : (e : Event) (s : State) → GiveRanged e → sound s ≡ true → sound (offer e s .state) ≡ true
 accepted-sound e s f h = of-sound (offer e s .state) (agrees e s (sound-of s h) f .sound)
 
 -- DEMAND 1, refused. On every machine, sound or not, a refused event gives the machine as it was, and no link is followed.
@@ -45,14 +45,14 @@ seen-same : (e : Event) (s : State) → Agrees s (offer e s) (plainOffer e (forg
 seen-same e s a =
     λ i. record { refusal = a .refusal i; running = a .plain i .running; links = linksOf (a .plain i .threads) }
 
-pub equal-from : (es : List Event) (s : State) → allFit es ≡ true → sound s ≡ true
+pub equal-from : (es : List Event) (s : State) → AllRanged es → sound s ≡ true
     → map seen (run es s) ≡ map plainSeen (plainRun es (forget s))
-unfolding run plainRun allFit
+unfolding run plainRun
 equal-from [] s f h = refl
 equal-from (e ∷ es) s f h =
-    let fe = and-true-left (fits e) (allFit es) f in
+    let fe = f .0 in
     let a = agrees e s (sound-of s h) fe in
-    let rest = equal-from es (offer e s .state) (and-true-right (fits e) (allFit es) f) (accepted-sound e s fe h) in
+    let rest = equal-from es (offer e s .state) (f .1) (accepted-sound e s fe h) in
     λ i. seen-same e s a i ∷ (rest ∙ ap (λ (p : Plain). map plainSeen (plainRun es p)) (a .plain)) i
 
 -- from the empty machine
@@ -60,7 +60,7 @@ pub empty-sound : sound empty ≡ true
 unfolding computing
 empty-sound = refl
 
-pub equal : (es : List Event) → allFit es ≡ true → map seen (run es empty) ≡ map plainSeen (plainRun es emptyPlain)
+pub equal : (es : List Event) → AllRanged es → map seen (run es empty) ≡ map plainSeen (plainRun es emptyPlain)
 equal es f = equal-from es empty f empty-sound
 
 -- THE LINK BOUND. In each event at most L × (T + 2) links are followed, L and T counted on the plain machine before it.
@@ -69,15 +69,14 @@ WithinLimits [] s p = Unit {0}
 WithinLimits (e ∷ es) s p =
     (offer e s .links ≤ liveThreads (p .threads) * (length (p .order) + 2)) × WithinLimits es (offer e s .state) (plainOffer e p .plain)
 
-pub within-from : (es : List Event) (s : State) → allFit es ≡ true → sound s ≡ true → WithinLimits es s (forget s)
-unfolding allFit
+pub within-from : (es : List Event) (s : State) → AllRanged es → sound s ≡ true → WithinLimits es s (forget s)
 within-from [] s f h = tt
 within-from (e ∷ es) s f h =
-    let fe = and-true-left (fits e) (allFit es) f in
+    let fe = f .0 in
     let a = agrees e s (sound-of s h) fe in
-    (a .links, rw (← a .plain) (within-from es (offer e s .state) (and-true-right (fits e) (allFit es) f) (accepted-sound e s fe h)))
+    (a .links, rw (← a .plain) (within-from es (offer e s .state) (f .1) (accepted-sound e s fe h)))
 
-pub within : (es : List Event) → allFit es ≡ true → WithinLimits es empty emptyPlain
+pub within : (es : List Event) → AllRanged es → WithinLimits es empty emptyPlain
 within es f = within-from es empty f empty-sound
 
 -- THE KEY'S COLUMNS. Of every string of bytes, accepted or refused, every column of the key but the last is the plain machine's.
@@ -98,7 +97,7 @@ plain-lines number (a ∷ rest) = rw (plain-lines (number + 1) rest)
 columns-after : (k : ℕ) (file : List ℕ) → Bytes file → shortKeyAfter k file ≡ plainKeyAfter k file
 columns-after zero file bytes =
     short-lines 1 (run (eventsOf file) empty)
-    ∙ ap (seenLines 1) (equal (eventsOf file) (events-fit file bytes))
+    ∙ ap (seenLines 1) (equal (eventsOf file) (all-ranged (eventsOf file) (events-fit file bytes)))
     ∙ sym (plain-lines 1 (plainRun (eventsOf file) emptyPlain))
 columns-after (suc k) file bytes = refl
 

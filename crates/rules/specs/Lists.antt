@@ -1,15 +1,15 @@
 -- Lists of events, run on either machine: each event gets the machine that the last one handed back.
-use Prim.Native.Nat.{ℕ}
+use Prim.Native.Nat.{ℕ, _≤_}
+use mathlib.Core.Path.{_≡_}
 use mathlib.Core.List.{List, [], _∷_, map}
 use Rattle.rules.specs.declared.Thread.{Thread}
 use Rattle.rules.specs.declared.Running.{Running}
 use Rattle.rules.specs.declared.Event.{Event}
+use Rattle.rules.specs.declared.Event.the-variants.{Give}
 use Rattle.rules.specs.State.{State, Plain}
 use Rattle.rules.specs.Walk.{Link, linkOf}
 use Rattle.rules.specs.Events.{Answered, offer}
 use Rattle.rules.specs.Plain.{PlainAnswered, plainOffer}
-pub use Rattle.rules.specs.EventFile.{fits}
-unfoldable pub use Rattle.rules.specs.EventFile.{allFit}
 
 -- the answers, each with the machine after its event
 unfoldable pub run : List Event → State → List Answered
@@ -39,3 +39,12 @@ seen a = record { refusal = a .refusal; running = a .state .running; links = lin
 
 abbrev pub plainSeen : PlainAnswered → Seen
 plainSeen a = record { refusal = a .refusal; running = a .plain .running; links = linksOf (a .plain .threads) }
+
+-- "a priority 0 to 255 .., a quantum 1 to 65,535": a give holds no more. Its operands cannot, so an event of the code and an event read from
+-- bytes never do; of the other events nothing is asked.
+abbrev pub GiveRanged : Event → Type 0
+GiveRanged e = (t n priority quantum : ℕ) → e ≡ Give t n priority quantum → (priority ≤ 255) × (quantum ≤ 65535)
+
+abbrev pub AllRanged : List Event → Type 0
+AllRanged [] = Unit {0}
+AllRanged (e ∷ es) = GiveRanged e × AllRanged es

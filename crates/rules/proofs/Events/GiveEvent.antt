@@ -22,7 +22,6 @@ use Rattle.rules.specs.Timeslices.{given, last}
 use Rattle.rules.specs.Sound.{inRange}
 use Rattle.rules.specs.Refusals.{refusal, aboveLimit, ownsOne}
 use Rattle.rules.specs.Events.{aboveRunning, overtakes, withGiven, give}
-use Rattle.rules.specs.EventFile.{fits}
 use Rattle.rules.specs.Plain.{update}
 use Rattle.rules.proofs.Basics.Views.{clash, or-false-left}
 use Rattle.rules.proofs.Basics.Members.{some-none}
@@ -30,7 +29,6 @@ use Rattle.rules.proofs.Order.Orders.{above-last, member-last, member-l
 use Rattle.rules.proofs.Soundness.Standings.{RunsAt}
 use Rattle.rules.proofs.Soundness.Places.{Settled, runs-on, Sound}
 use Rattle.rules.proofs.Basics.Accepting.{passes}
-use Rattle.rules.proofs.Files.Records.{give-fits}
 use Rattle.rules.proofs.Choosing.Slices.{Retimed, owner-kept, stay, retimed-mid, retimed-top}
 use Rattle.rules.proofs.Events.Hands.{Handed, active, linkLimit}
 
@@ -48,10 +46,9 @@ record Fresh (s : State) (t n priority quantum : ℕ) : Type 0 where
   short : quantum ≤ 65535
   least : 1 ≤ quantum
 
-fresh : (s : State) (t n priority quantum : ℕ) → fits (Give t n priority quantum) ≡ true
+fresh : (s : State) (t n priority quantum : ℕ) → (priority ≤ 255) × (quantum ≤ 65535)
     → refusal (Give t n priority quantum) (forget s) ≡ 0 → Fresh s t n priority quantum
-fresh s t n priority quantum f e =
-    let ranges = give-fits t n priority quantum f in
+fresh s t n priority quantum ranges e =
     let small = passes (aboveLimit t || aboveLimit n) 1 _ e in
     let unlisted = passes (member t (s .order)) 2 _ (small .1) in
     let live = passes (not (liveAt (s .threads) n)) 3 _ (unlisted .1) in
@@ -131,7 +128,7 @@ module _ {s : State} (x : Sound s) {t n priority quantum : ℕ} (f : Fresh s t n
   given-links = mul-le-mul-left (liveThreads (s .threads)) (omega (arith, length-last t (s .order)))
 
 -- nobody stands Behind a timeslice that was not listed
-pub give-handed : (s : State) → Sound s → (t n priority quantum : ℕ) → fits (Give t n priority quantum) ≡ true
+pub give-handed : (s : State) → Sound s → (t n priority quantum : ℕ) → (priority ≤ 255) × (quantum ≤ 65535)
     → refusal (Give t n priority quantum) (forget s) ≡ 0
     → Handed s (give t n priority quantum s) (update (Give t n priority quantum) (forget s))
 unfolding give

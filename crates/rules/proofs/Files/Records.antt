@@ -1,6 +1,6 @@
 -- A record is its length, its kind and its operands, so what holds of every record needs no case for each kind.
 use Prim.Native.Nat.{ℕ, _*_, _≤_}
-use mathlib.Core.Path.{_≡_}
+use mathlib.Core.Path.{_≡_, sym, ap, _∙_}
 use mathlib.Core.List.{List, [], _∷_}
 use mathlib.Core.Bool.{true}
 use native.Mathlib.Omega.{arith}
@@ -8,7 +8,9 @@ use lib.ListN.{length, length-append}
 use borrow.Author.Tests.{leb-true}
 use Rattle.rules.specs.declared.Event.{Event}
 use Rattle.rules.specs.declared.Event.the-variants.{Give}
-use Rattle.rules.specs.EventFile.{highByte, recordOf, recordsOf, byte, fits}
+use Rattle.rules.specs.EventFile.{highByte, recordOf, recordsOf, byte, fits, allFit}
+use Rattle.rules.specs.Lists.{GiveRanged, AllRanged}
+use Rattle.rules.proofs.Basics.Views.{and-true-left, and-true-right}
 use Rattle.rules.proofs.Basics.Members.{all-head, all-tail}
 
 -- a record has two bytes or more
@@ -30,3 +32,12 @@ give-fits t n priority quantum f =
     let from-priority = all-tail byte n _ (all-tail byte t _ f) in
     let from-quantum = all-tail byte priority _ from-priority in
     (leb-true priority 255 (all-head byte priority _ from-priority), word-fits quantum (all-head byte (highByte quantum) _ from-quantum))
+
+-- so of events whose operands fit, every give is in range
+pub give-ranged : (e : Event) → fits e ≡ true → GiveRanged e
+give-ranged e f t n priority quantum is = give-fits t n priority quantum (sym (ap fits is) ∙ f)
+
+pub all-ranged : (es : List Event) → allFit es ≡ true → AllRanged es
+unfolding allFit
+all-ranged [] f = tt
+all-ranged (e ∷ es) f = (give-ranged e (and-true-left (fits e) (allFit es) f), all-ranged es (and-true-right (fits e) (allFit es) f))
