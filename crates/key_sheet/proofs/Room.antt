@@ -23,9 +23,9 @@ fits-after zero file bytes h =
     let few = events-most file bytes h in
     let answers = run-length (eventsOf file) empty in
     let small = accepted file h .head .small in
-    let most =
-    lines-length 1 (run (eventsOf file) empty) (run-narrow (eventsOf file) empty (all-ranged (eventsOf file) (events-fit file bytes)) (sound-of empty empty-sound))
-    (omega arith) in
+    let ranged = all-ranged (eventsOf file) (events-fit file bytes) in
+    let narrow = run-narrow (eventsOf file) empty ranged (sound-of empty empty-sound) in
+    let most = lines-length 1 (run (eventsOf file) empty) narrow (omega arith) in
     omega arith
 fits-after (suc n) file bytes h = omega (arith, file-line-length (suc n) (omega (arith, refusal-small file)))
 

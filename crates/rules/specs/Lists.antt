@@ -40,8 +40,8 @@ seen a = record { refusal = a .refusal; running = a .state .running; links = lin
 abbrev pub plainSeen : PlainAnswered → Seen
 plainSeen a = record { refusal = a .refusal; running = a .plain .running; links = linksOf (a .plain .threads) }
 
--- "a priority 0 to 255 .., a quantum 1 to 65,535": a give holds no more. Its operands cannot, so an event of the code and an event read from
--- bytes never do; of the other events nothing is asked.
+-- "a priority 0 to 255 .., a quantum 1 to 65,535": a give holds no more. Its operands cannot, so an event of the code and an event read
+-- from bytes never do; of the other events nothing is asked.
 abbrev pub GiveRanged : Event → Type 0
 GiveRanged e = (t n priority quantum : ℕ) → e ≡ Give t n priority quantum → (priority ≤ 255) × (quantum ≤ 65535)
 

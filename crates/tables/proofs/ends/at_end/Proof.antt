@@ -1,5 +1,5 @@
 -- The hold decides, for Idle with the number of links.
-use borrow.Author.Tests.{le-leb, le-ltb, lt-leb, lt-ltb}
+use borrow.Author.Tests.{le-ltb, lt-ltb}
 use borrow.Author.Needs.{needs}
 use Rattle.tables.proofs.ends.at_end.Statement.{statement}
 use Rattle.tables.proofs.ends.at_end.Tie as tie
@@ -11,7 +11,7 @@ enum-told-2 : tie.Need-enum-told-2
 enum-told-2 c = search needs
 
 returns : tie.Need-returns
-returns c = simp (lt-ltb _ _ (c .if1 .taken), lt-leb _ _ (c .if1 .taken), c .before .enum-told2 .given .1)
+returns c = simp (lt-ltb _ _ (c .if1 .taken), c .before .enum-told2 .given .1)
 
 enum-told-3 : tie.Need-enum-told-3
 enum-told-3 c = search needs
@@ -26,7 +26,7 @@ returns-2 : tie.Need-returns-2
 returns-2 c = search needs
 
 returns-3 : tie.Need-returns-3
-returns-3 c = simp (le-ltb _ _ (c .if1 .left), le-leb _ _ (c .if1 .left), c .before .enum-told2 .given .1)
+returns-3 c = simp (le-ltb _ _ (c .if1 .left), c .before .enum-told2 .given .1)
 
 returns-4 : tie.Need-returns-4
 returns-4 c = search needs
