@@ -6,9 +6,10 @@ use mathlib.Core.List.{List, [], _∷_}
 use Rattle.rules.specs.declared.Role.the-variants.{Client, Server}
 use Rattle.rules.specs.declared.Event.{Event}
 use Rattle.rules.specs.declared.Event.the-variants.{Create, Give, Call, Reply, Block, Wake, Charge, Abort}
+use Rattle.rules.specs.Tests.{all}
 use Rattle.rules.specs.Key.{bytes, digits, decimal}
 use Rattle.list_text.specs.Writing.{eventWords, textOf}
-use Rattle.list_text.specs.Reading.{parts, uncommented, notEmpty, wordsOf, same, allDigits, valueFrom, value, eventNamed, lineOf}
+use Rattle.list_text.specs.Reading.{parts, uncommented, notEmpty, wordsOf, same, valueFrom, value, eventNamed, lineOf}
 use Rattle.list_text.specs.Reading.{Answer, read, refused, readLines, lineAfter, readText}
 
 -- one event of each kind
@@ -28,12 +29,12 @@ answer : String → Answer
 answer s = readText (bytes s)
 
 read-back : readText text ≡ read events
-unfolding readText readLines lineOf eventNamed value valueFrom allDigits same wordsOf notEmpty uncommented parts bytes events text
+unfolding readText readLines lineOf eventNamed value valueFrom all same wordsOf notEmpty uncommented parts bytes events text
 read-back = refl
 
 -- comments, empty lines, blanks, leading zeros, and a last line without a line feed are read
 loose : answer "# a server\n\n  call\t010 \r\n reply# at once\nblock" ≡ read (Call 10 ∷ Reply ∷ Block ∷ [])
-unfolding answer readText readLines lineOf eventNamed value valueFrom allDigits same wordsOf notEmpty uncommented parts bytes
+unfolding answer readText readLines lineOf eventNamed value valueFrom all same wordsOf notEmpty uncommented parts bytes
 loose = refl
 
 -- each fault, in the line where it is
@@ -41,5 +42,5 @@ faults :
     (answer "reply\nReply\n" ≡ refused 2 1) × (answer "call" ≡ refused 1 2) × (answer "call ten" ≡ refused 1 2)
     × (answer "create 1" ≡ refused 1 2) × (answer "reply\n\nreply 1" ≡ refused 3 3) × (answer "call 256 7" ≡ refused 1 4)
     × (answer "charge 65536" ≡ refused 1 5) × (answer "create 1 Server" ≡ refused 1 6) × (answer "give 0 0 40 -1" ≡ refused 1 2)
-unfolding answer readText readLines lineOf eventNamed value valueFrom allDigits same wordsOf notEmpty uncommented parts bytes
+unfolding answer readText readLines lineOf eventNamed value valueFrom all same wordsOf notEmpty uncommented parts bytes
 faults = (refl, refl, refl, refl, refl, refl, refl, refl, refl)

@@ -8,6 +8,7 @@ use Rattle.rules.specs.declared.Role.{Role}
 use Rattle.rules.specs.declared.Role.the-variants.{Client, Server}
 use Rattle.rules.specs.declared.Event.{Event}
 use Rattle.rules.specs.declared.Event.the-variants.{Create, Give, Call, Reply, Block, Wake, Charge, Abort}
+use Rattle.rules.specs.Tests.{all}
 use Rattle.rules.specs.EventFile.{recordOf}
 use Rattle.rules.specs.Key.{bytes}
 use Rattle.list_text.specs.declared.Line.{Line}
@@ -85,10 +86,6 @@ same (a ∷ b) (c ∷ d) = eqb a c && same b d
 abbrev pub digitByte : ℕ → Bool
 digitByte b = leb 48 b && leb b 57
 
-unfoldable pub allDigits : List ℕ → Bool
-allDigits [] = true
-allDigits (b ∷ rest) = digitByte b && allDigits rest
-
 unfoldable pub valueFrom : ℕ → List ℕ → ℕ
 valueFrom n [] = n
 valueFrom n (b ∷ rest) = valueFrom (n * 10 + (b - 48)) rest
@@ -100,7 +97,7 @@ value word = valueFrom 0 word
 abbrev pub number : ℕ → ℕ → List (List ℕ) → (ℕ → List (List ℕ) → Line) → Line
 number most above [] next = Wrong numberMissing
 number most above (word ∷ rest) next =
-    cond (allDigits word) (cond (leb (value word) most) (next (value word) rest) (Wrong above)) (Wrong numberMissing)
+    cond (all digitByte word) (cond (leb (value word) most) (next (value word) rest) (Wrong above)) (Wrong numberMissing)
 
 abbrev pub byteNumber : List (List ℕ) → (ℕ → List (List ℕ) → Line) → Line
 byteNumber = number 255 above255
