@@ -20,7 +20,7 @@ use Rattle.rules.proofs.Files.WrittenThenRead.{length-fileOf}
 use Rattle.rules.proofs.Files.Inverse.{events-fit, as-written}
 use Rattle.text.proofs.DigitCounts.{two-long, three-long, five-long}
 use Rattle.list_text.specs.Writing.{roleWord, eventWords, textOf, textAfter, fileText}
-use Rattle.list_text.proofs.Operands.{small}
+use Rattle.list_text.proofs.Fitting.{small}
 
 role-length : (r : Role) → length (roleWord r) ≡ 6
 unfolding bytes

@@ -2,3 +2,5 @@
 pub mod Writing
 pub mod Reading
 pub mod Answers
+-- how the code reads
+pub mod Scanning

@@ -115,19 +115,38 @@ abbrev pub last : Event → List (List ℕ) → Line
 last e [] = One e
 last e (word ∷ rest) = Wrong oneTooMany
 
--- the event that a word names, and its operands
+-- the operands of each kind
+abbrev pub create : List (List ℕ) → Line
+create words = byteNumber words (λ n words. role words (λ r. last (Create n r)))
+
+abbrev pub give : List (List ℕ) → Line
+give words =
+    byteNumber words (λ t words. byteNumber words (λ n words. byteNumber words (λ priority words. wideNumber words (λ quantum.
+    last (Give t n priority quantum)))))
+
+abbrev pub call : List (List ℕ) → Line
+call words = byteNumber words (λ n. last (Call n))
+
+abbrev pub wake : List (List ℕ) → Line
+wake words = byteNumber words (λ n. last (Wake n))
+
+abbrev pub charge : List (List ℕ) → Line
+charge words = wideNumber words (λ units. last (Charge units))
+
+abbrev pub abort : List (List ℕ) → Line
+abort words = byteNumber words (λ n. last (Abort n))
+
+-- the event that the first word names
 unfoldable pub eventNamed : List ℕ → List (List ℕ) → Line
-eventNamed word rest =
-    cond (same word (bytes "create")) (byteNumber rest (λ n rest. role rest (λ r. last (Create n r))))
-    (cond (same word (bytes "give"))
-    (byteNumber rest (λ t rest. byteNumber rest (λ n rest. byteNumber rest (λ priority rest. wideNumber rest (λ quantum.
-    last (Give t n priority quantum))))))
-    (cond (same word (bytes "call")) (byteNumber rest (λ n. last (Call n)))
-    (cond (same word (bytes "reply")) (last Reply rest)
-    (cond (same word (bytes "block")) (last Block rest)
-    (cond (same word (bytes "wake")) (byteNumber rest (λ n. last (Wake n)))
-    (cond (same word (bytes "charge")) (wideNumber rest (λ units. last (Charge units)))
-    (cond (same word (bytes "abort")) (byteNumber rest (λ n. last (Abort n)))
+eventNamed word words =
+    cond (same word (bytes "create")) (create words)
+    (cond (same word (bytes "give")) (give words)
+    (cond (same word (bytes "call")) (call words)
+    (cond (same word (bytes "reply")) (last Reply words)
+    (cond (same word (bytes "block")) (last Block words)
+    (cond (same word (bytes "wake")) (wake words)
+    (cond (same word (bytes "charge")) (charge words)
+    (cond (same word (bytes "abort")) (abort words)
     (Wrong noSuchEvent))))))))
 
 abbrev pub lineOfWords : List (List ℕ) → Line
