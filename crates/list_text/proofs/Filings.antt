@@ -83,6 +83,7 @@ text-good text = by (two (ltb 1048576 (length text)))
 -- a list that is refused
 pub refused-write : (a : Answer) (filed : Filed) (before : List ℕ) → filed ≡ counted 5 a → (filed .line ≡ 0 → ⊥)
     → (filed ≡ filedAs a) × (before ≡ bufferAs a before)
+unfolding filedAs bufferAs
 refused-write (read es) filed before e h = absurd (h (ap (λ (f : Filed). f .line) e))
 refused-write (refused line fault) filed before e h = (e, refl)
 
@@ -105,9 +106,18 @@ pub accepted-write : {before after : List ℕ} {to : ℕ} (a : Answer) (lines : 
     → filed ≡ counted 5 a → filed .line ≡ 0 → 65536 ≤ length before
     → Put before after 0 to (fourBytes (filed .bytes - 4) ++ (1 ∷ []) ++ linesRecords lines)
     → (filed ≡ filedAs a) × (after ≡ bufferAs a before)
+unfolding filedAs bufferAs
 accepted-write {before} {after} {to} (read es) lines filed g e h room p =
     let bytes = ap (λ (f : Filed). f .bytes) e in
     let size = length-fileOf es in
     let whole = roomy (omega (arith, size, g .0)) (reading (file-is es lines (filed .bytes) bytes (g .1)) p) in
     (e ∙ ap (λ (n : ℕ). record { bytes = n; line = 0; fault = 0 }) (sym size), rw zero-add at (whole .0))
 accepted-write (refused line fault) lines filed g e h room p = absurd (omega (arith, g, h, ap (λ (f : Filed). f .line) e))
+
+-- the file is within the buffer
+pub filed-within : (a : Answer) (filed : Filed) (before after : List ℕ) → filed ≡ filedAs a → after ≡ bufferAs a before
+    → filed .bytes ≤ length after
+unfolding filedAs bufferAs
+filed-within (read es) filed before after e f =
+    omega (arith, ap (λ (x : Filed). x .bytes) e, ap length f, length-append (fileOf es) (drop (length (fileOf es)) before))
+filed-within (refused line fault) filed before after e f = omega (arith, ap (λ (x : Filed). x .bytes) e)

@@ -27,11 +27,11 @@ unfoldable pub sentence : ℕ → ℕ → List ℕ
 sentence line fault = bytes "line " ++ decimal line ++ bytes ": " ++ faultWords fault ++ bytes "\n"
 
 -- what writing a list's file hands back: how many bytes it has, or which line is wrong and how
-abbrev pub filedAs : Answer → Filed
+unfoldable pub filedAs : Answer → Filed
 filedAs (read es) = record { bytes = length (fileOf es); line = 0; fault = 0 }
 filedAs (refused line fault) = record { bytes = 0; line = line; fault = fault }
 
 -- the whole buffer: the file at its front and every other byte as it was; a refused list changes none
-abbrev pub bufferAs : Answer → List ℕ → List ℕ
+unfoldable pub bufferAs : Answer → List ℕ → List ℕ
 bufferAs (read es) before = fileOf es ++ drop (length (fileOf es)) before
 bufferAs (refused line fault) before = before

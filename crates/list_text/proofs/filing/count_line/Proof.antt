@@ -24,9 +24,11 @@ returns : tie.Need-returns
 returns c =
     let sized = c .before in
     let told = sized .before .before .line .given .1 in
-    let filled = sized .before .before .before .before .args .filled in
-    (counts-too-long filled told (sized .record-length .ensures .0) _ (c .if1 .taken), omega
-    (arith, sized .before .before .before .before .pre))
+    let filled = sized .before .before .before .before .args .filled in (
+      counts-too-long filled told (sized .record-length .ensures .0) _ (c .if1 .taken),
+      omega
+          (arith, sized .before .before .before .before .pre),
+    )
 
 enum-known-line-2 : tie.Need-enum-known-line-2
 enum-known-line-2 c = search needs

@@ -20,8 +20,12 @@ scan-requires c κs = tt
 
 slice-aggregate-words-line : tie.Need-slice-aggregate-words-line
 slice-aggregate-words-line c =
-    sym (length-take-le _ _ (omega (arith, c .before .scan .ensures, end-within (stops Hash)
-    (now (c .before .before .before .args .line)))))
+    sym (length-take-le _ _ (omega (
+      arith,
+      c .before .scan .ensures,
+      end-within (stops Hash)
+          (now (c .before .before .before .args .line)),
+    )))
 
 words-line-requires : tie.Need-words-line-requires
 words-line-requires c κs = tt

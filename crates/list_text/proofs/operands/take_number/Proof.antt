@@ -16,9 +16,10 @@ returns : tie.Need-returns
 returns c =
     let read = c .before in
     let start = read .before .before in
-    let line = now (start .args .line) in
-    (takes-none line (start .args .at) _ _ _ (no-word line (start .args .at) (read .scan .result) (read .scan .ensures) (c .if1 .taken)),
-    omega arith)
+    let line = now (start .args .line) in (
+      takes-none line (start .args .at) _ _ _ (no-word line (start .args .at) (read .scan .result) (read .scan .ensures) (c .if1 .taken)),
+      omega arith,
+    )
 
 scan-requires-2 : tie.Need-scan-requires-2
 scan-requires-2 c κs = tt

@@ -33,8 +33,12 @@ returns c =
     let start = turn .before .before in
     let text = now (start .args .text) in
     let test = stops (start .args .until) in
-    omega (arith, turn .loop .inv, stops-here test text (turn .loop .i) (c .before .before .before .loop-test .taken)
-    (sym (c .before .stops-at .ensures) ∙ c .if1 .taken))
+    omega (
+      arith,
+      turn .loop .inv,
+      stops-here test text (turn .loop .i) (c .before .before .before .loop-test .taken)
+          (sym (c .before .stops-at .ensures) ∙ c .if1 .taken),
+    )
 
 add-i : tie.Need-add-i Inv-loop μ-loop
 add-i c = search needs
@@ -48,14 +52,22 @@ loop-again c =
     let start = turn .before .before in
     let text = now (start .args .text) in
     let test = stops (start .args .until) in
-    omega (arith, turn .loop .inv, goes-on test text (turn .loop .i) (c .before .before .before .loop-test .taken)
-    (sym (c .before .stops-at .ensures) ∙ c .if1 .left))
+    omega (
+      arith,
+      turn .loop .inv,
+      goes-on test text (turn .loop .i) (c .before .before .before .loop-test .taken)
+          (sym (c .before .stops-at .ensures) ∙ c .if1 .left),
+    )
 
 returns-2 : tie.Need-returns-2 Inv-loop μ-loop
 returns-2 c =
     let start = c .before .before .before in
-    omega (arith, c .before .loop .inv, is-over (stops (start .args .until)) (now (start .args .text)) (c .before .loop .i)
-    (c .loop-test .left))
+    omega (
+      arith,
+      c .before .loop .inv,
+      is-over (stops (start .args .until)) (now (start .args .text)) (c .before .loop .i)
+          (c .loop-test .left),
+    )
 
 pub scan-spec : {M : Type 1} → statement M
 scan-spec =
