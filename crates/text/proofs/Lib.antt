@@ -1,4 +1,5 @@
 -- The laws of text put into a lent buffer.
 pub mod Puts
 pub mod Decimals
+pub mod DigitCounts
 pub mod ColumnParts

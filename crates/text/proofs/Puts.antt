@@ -115,3 +115,7 @@ _then_ {a} {b} {c} {i} {j} {k} {xs} {ys} p q = by (two (ltb (length a) i))
 -- the same text in other words
 pub reading : {a b : List ℕ} {i j : ℕ} {xs ys : List ℕ} → xs ≡ ys → Put a b i j xs → Put a b i j ys
 reading e p = rw e at p
+
+-- a put that begins inside the buffer ends inside it
+pub put-inside : {a b : List ℕ} {i j : ℕ} {xs : List ℕ} → i ≤ length a → Put a b i j xs → j ≤ length b
+put-inside {a} {b} {i} {j} {xs} h p = omega (arith, p .end, keeps p, length-take (length a - i) xs)

@@ -1,0 +1,46 @@
+-- The definitions, computed.
+use Prim.Native.Nat.{ℕ}
+use Prim.Native.String.{String}
+use mathlib.Core.Path.{_≡_, refl}
+use mathlib.Core.List.{List, [], _∷_}
+use Rattle.rules.specs.declared.Role.the-variants.{Client, Server}
+use Rattle.rules.specs.declared.Event.{Event}
+use Rattle.rules.specs.declared.Event.the-variants.{Create, Give, Call, Reply, Block, Wake, Charge, Abort}
+use Rattle.rules.specs.Tests.{all}
+use Rattle.rules.specs.Key.{bytes, digits, decimal}
+use Rattle.list_text.specs.Writing.{eventWords, textOf}
+use Rattle.list_text.specs.Reading.{parts, uncommented, notEmpty, wordsOf, same, valueFrom, value, eventNamed, lineOf}
+use Rattle.list_text.specs.Reading.{Answer, read, refused, readLines, lineAfter, readText}
+
+-- one event of each kind
+events : List Event
+events =
+    Create 10 Server ∷ Create 0 Client ∷ Give 0 0 40 100 ∷ Call 10 ∷ Reply ∷ Block ∷ Wake 3 ∷ Charge 65535 ∷ Abort 2 ∷ []
+
+text : List ℕ
+text =
+    bytes "create 10 server\ncreate 0 client\ngive 0 0 40 100\ncall 10\nreply\nblock\nwake 3\ncharge 65535\nabort 2\n"
+
+written : textOf events ≡ text
+unfolding textOf eventWords bytes decimal digits events text
+written = refl
+
+answer : String → Answer
+answer s = readText (bytes s)
+
+read-back : readText text ≡ read events
+unfolding readText readLines lineOf eventNamed value valueFrom all same wordsOf notEmpty uncommented parts bytes events text
+read-back = refl
+
+-- comments, empty lines, blanks, leading zeros, and a last line without a line feed are read
+loose : answer "# a server\n\n  call\t010 \r\n reply# at once\nblock" ≡ read (Call 10 ∷ Reply ∷ Block ∷ [])
+unfolding answer readText readLines lineOf eventNamed value valueFrom all same wordsOf notEmpty uncommented parts bytes
+loose = refl
+
+-- each fault, in the line where it is
+faults :
+    (answer "reply\nReply\n" ≡ refused 2 1) × (answer "call" ≡ refused 1 2) × (answer "call ten" ≡ refused 1 2)
+    × (answer "create 1" ≡ refused 1 2) × (answer "reply\n\nreply 1" ≡ refused 3 3) × (answer "call 256 7" ≡ refused 1 4)
+    × (answer "charge 65536" ≡ refused 1 5) × (answer "create 1 Server" ≡ refused 1 6) × (answer "give 0 0 40 -1" ≡ refused 1 2)
+unfolding answer readText readLines lineOf eventNamed value valueFrom all same wordsOf notEmpty uncommented parts bytes
+faults = (refl, refl, refl, refl, refl, refl, refl, refl, refl)

@@ -1,0 +1,6 @@
+-- Lists of events in words: what is written, and what is read.
+pub mod Writing
+pub mod Reading
+pub mod Answers
+-- how the code reads
+pub mod Scanning

@@ -1,0 +1,103 @@
+// Lists of events in words: what an examiner writes and reads instead of an event file's bytes. Writing and reading are defined in
+// specs/Writing.antt and specs/Reading.antt. The numbers that a program over this crate needs, how much it must read and how much it
+// must write, are fixed here by contracts.
+ghost use Prim.Native.Nat.{ℕ, _<_};
+ghost use mathlib.Core.Path.{_≡_};
+ghost use mathlib.Core.List.{List, _++_};
+ghost use lib.ListN.{length, take, drop};
+ghost use Rattle.list_text.specs.Writing.{fileText};
+ghost use Rattle.list_text.specs.Reading.{readText};
+ghost use Rattle.list_text.specs.Answers.{filedAs, bufferAs};
+
+mod filing;
+mod kinds;
+mod operands;
+mod records;
+mod scan;
+mod sentence;
+mod words;
+mod writer;
+
+use event_file::reader::file_refusal;
+use rules::Event;
+pub use sentence::put_sentence;
+use text::put_file_line;
+
+// What a line holds: nothing, an event, or a fault by its number.
+pub enum Line {
+    Empty,
+    One(Event),
+    Wrong(u8),
+}
+
+// What becomes of a list: how many bytes its file has, or the line that is wrong, from 1, and its fault. A line 0 is none.
+pub struct Filed {
+    pub bytes: usize,
+    pub line: usize,
+    pub fault: u8,
+}
+
+// Room for the text of every file: `text-fits`, proofs/Room.antt.
+pub const ROOM: usize = 1048576;
+
+// One byte more than a file may have: `enough-of-a-file`, proofs/Enough.antt.
+const FILE: usize = 65537;
+
+// One byte more than a list may have: `enough-of-a-list`, proofs/Enough.antt.
+const LIST: usize = 1048577;
+
+// The most bytes of a file.
+pub const MOST: usize = 65536;
+
+fn file_zeros() -> [u8; FILE]
+    ensures { λ r. ⌜ 65536 < length r ⌝ }
+{
+    [0; FILE]
+}
+
+// A buffer for a file that is read. Of an input of any length it holds enough: the text of that much is the text of the whole.
+pub fn file_input() -> [u8; FILE]
+    ensures { λ r. ⌜ ((b : List ℕ) → fileText (take (length r) b) ≡ fileText b) ⌝ }
+{
+    file_zeros()
+}
+
+// Writes a file's events in words into a lent buffer, from its front, and gives the text's length; a refused file as the key program's
+// line. Every other byte stays.
+pub fn write_text(file: &[u8], out: &mut [u8; ROOM]) -> usize
+    ensures { λ r. ⌜ (r ≡ length (fileText (now (file .entry))))
+        × (now (out .exit) ≡ fileText (now (file .entry)) ++ drop (length (fileText (now (file .entry)))) (now (out .entry))) ⌝ }
+{
+    let refusal = file_refusal(file);
+    if refusal != 0 {
+        return put_file_line(out, 0, refusal);
+    }
+    writer::put_events(file, out)
+}
+
+fn list_zeros() -> [u8; LIST]
+    ensures { λ r. ⌜ 1048576 < length r ⌝ }
+{
+    [0; LIST]
+}
+
+// A buffer for a list that is read. Of an input of any length it holds enough: what becomes of that much becomes of the whole.
+pub fn list_input() -> [u8; LIST]
+    ensures { λ r. ⌜ ((b : List ℕ) → readText (take (length r) b) ≡ readText b) ⌝ }
+{
+    list_zeros()
+}
+
+// Writes the file of a list into a lent buffer, from its front, and gives the file's length; of a list with a fault the line and the
+// fault, and then no byte changes.
+pub fn write_file(text: &[u8], out: &mut [u8; MOST]) -> Filed
+    ensures { λ r. ⌜ (r ≡ filedAs (readText (now (text .entry))))
+        × (now (out .exit) ≡ bufferAs (readText (now (text .entry))) (now (out .entry))) ⌝ }
+{
+    let filed = filing::count(text);
+    if filed.line != 0 {
+        return filed;
+    }
+    filing::put_file(text, out, filed.bytes);
+    filed
+}

@@ -1,0 +1,149 @@
+// The records of events, put into a lent buffer.
+ghost use mathlib.Core.Path.{_≡_};
+ghost use mathlib.Core.List.{[], _∷_, _++_};
+ghost use Prim.Native.Nat.{_≤_, _<_};
+ghost use lib.ListN.{length};
+ghost use Rattle.rules.specs.declared.Event;
+ghost use Rattle.rules.specs.EventFile.{highByte, lowByte, roleByte, recordOf, fourBytes};
+ghost use Rattle.text.specs.Put.{Put};
+ghost use Rattle.list_text.specs.Scanning.{lineRecord};
+use crate::Line;
+use rules::Event;
+use rules::Role;
+use text::put_byte;
+
+pub fn record_length(event: Event) -> usize
+    ensures { λ r. ⌜ r ≡ length (recordOf event) ⌝ }
+    ensures bounded { λ r. ⌜ r ≤ 7 ⌝ }
+{
+    match event {
+        Event::Create { thread: _, role: _ } => 4,
+        Event::Give {
+            timeslice: _,
+            thread: _,
+            priority: _,
+            quantum: _,
+        } => 7,
+        Event::Call { server: _ } => 3,
+        Event::Reply => 2,
+        Event::Block => 2,
+        Event::Wake { thread: _ } => 3,
+        Event::Charge { units: _ } => 4,
+        Event::Abort { thread: _ } => 3,
+    }
+}
+
+fn role_byte(role: Role) -> u8
+    ensures { λ r. ⌜ r ≡ roleByte role ⌝ }
+{
+    match role {
+        Role::Client => 0,
+        Role::Server => 1,
+    }
+}
+
+fn put_two(out: &mut [u8], at: usize, a: u8, b: u8) -> usize
+    ensures { λ r. ⌜ Put (now (out .entry)) (now (out .exit)) at r (a ∷ b ∷ []) ⌝ }
+{
+    let second = put_byte(out, at, a);
+    put_byte(out, second, b)
+}
+
+fn high_byte(n: u16) -> u8
+    ensures { λ r. ⌜ r ≡ highByte n ⌝ }
+{
+    (n / 256) as u8
+}
+
+fn low_byte(n: u16) -> u8
+    ensures { λ r. ⌜ r ≡ lowByte n ⌝ }
+{
+    (n % 256) as u8
+}
+
+// A number of two bytes.
+fn put_word(out: &mut [u8], at: usize, n: u16) -> usize
+    ensures { λ r. ⌜ Put (now (out .entry)) (now (out .exit)) at r (highByte n ∷ lowByte n ∷ []) ⌝ }
+{
+    let high = high_byte(n);
+    let low = low_byte(n);
+    put_two(out, at, high, low)
+}
+
+// The record of an event with one operand of one byte.
+fn put_three(out: &mut [u8], at: usize, a: u8, b: u8, c: u8) -> usize
+    ensures { λ r. ⌜ Put (now (out .entry)) (now (out .exit)) at r (a ∷ b ∷ c ∷ []) ⌝ }
+{
+    let third = put_two(out, at, a, b);
+    put_byte(out, third, c)
+}
+
+fn put_create(out: &mut [u8], at: usize, thread: u8, role: Role) -> usize
+    ensures { λ r. ⌜ Put (now (out .entry)) (now (out .exit)) at r (recordOf (Event.Create thread role)) ⌝ }
+{
+    let byte = role_byte(role);
+    let last = put_three(out, at, 3, 1, thread);
+    put_byte(out, last, byte)
+}
+
+fn put_give(
+    out: &mut [u8],
+    at: usize,
+    timeslice: u8,
+    thread: u8,
+    priority: u8,
+    quantum: u16,
+) -> usize
+    ensures { λ r. ⌜ Put (now (out .entry)) (now (out .exit)) at r (recordOf (Event.Give timeslice thread priority quantum)) ⌝ }
+{
+    let second = put_three(out, at, 6, 2, timeslice);
+    let fourth = put_two(out, second, thread, priority);
+    put_word(out, fourth, quantum)
+}
+
+fn put_charge(out: &mut [u8], at: usize, units: u16) -> usize
+    ensures { λ r. ⌜ Put (now (out .entry)) (now (out .exit)) at r (recordOf (Event.Charge units)) ⌝ }
+{
+    let operand = put_two(out, at, 3, 7);
+    put_word(out, operand, units)
+}
+
+fn put_record(out: &mut [u8], at: usize, event: Event) -> usize
+    ensures { λ r. ⌜ Put (now (out .entry)) (now (out .exit)) at r (recordOf event) ⌝ }
+{
+    match event {
+        Event::Create { thread, role } => put_create(out, at, thread, role),
+        Event::Give {
+            timeslice,
+            thread,
+            priority,
+            quantum,
+        } => put_give(out, at, timeslice, thread, priority, quantum),
+        Event::Call { server } => put_three(out, at, 2, 3, server),
+        Event::Reply => put_two(out, at, 1, 4),
+        Event::Block => put_two(out, at, 1, 5),
+        Event::Wake { thread } => put_three(out, at, 2, 6, thread),
+        Event::Charge { units } => put_charge(out, at, units),
+        Event::Abort { thread } => put_three(out, at, 2, 8, thread),
+    }
+}
+
+// The record of a line's event, nothing for a line without one.
+pub fn put_line(out: &mut [u8], at: usize, line: Line) -> usize
+    ensures { λ r. ⌜ Put (now (out .entry)) (now (out .exit)) at r (lineRecord line) ⌝ }
+{
+    match line {
+        Line::Empty => at,
+        Line::One(event) => put_record(out, at, event),
+        Line::Wrong(_) => at,
+    }
+}
+
+// The first five bytes of a file: how many follow the length field, and the version.
+pub fn put_head(out: &mut [u8], count: u16) -> usize
+    ensures { λ r. ⌜ Put (now (out .entry)) (now (out .exit)) 0 r (fourBytes count ++ (1 ∷ [])) ⌝ }
+{
+    let third = put_two(out, 0, 0, 0);
+    let version = put_word(out, third, count);
+    put_byte(out, version, 1)
+}
