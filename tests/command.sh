@@ -20,20 +20,23 @@ cp "$here/../samples/bridge" "$outside/samples/k1" # the name of another file in
 cp "$here/../samples/k1" "$outside/a file"
 for tool in bash env dirname readlink cat mktemp rm; do ln -s "$(command -v $tool)" "$work/few/$tool"; done
 
-# The program that rt "builds" is $work/built; while $work/slow is there, proving does not end.
+# The programs that rt "builds" are $work/built and its neighbour of the key program; while $work/slow is there, proving does not end.
 cp "$program" "$work/built"
+encoder=$(dirname "$program")/list_to_file
 cat >"$work/bin/rt" <<END
 #!/bin/sh
 mkdir -p target/bin target/log target/stamp
-if [ "\$1" = ci ]; then cp "$work/built" target/bin/key; cat "$work/ci"; exit "\$(cat "$work/ci.status")"; fi
+if [ "\$1" = ci ]; then cp "$work/built" target/bin/key; cp "$encoder" target/bin/list_to_file; cat "$work/ci"; exit "\$(cat "$work/ci.status")"; fi
 [ ! -f "$work/refuse" ] || { echo "rt: key NOT PROVED"; exit 1; }
 [ ! -f target/stamp/key ] || exit 0
 echo failed >target/log/key.res
 : >target/log/key.say
 if [ -f "$work/slow" ]; then (exec sleep 1000) & echo \$! >"$work/prover"; wait; fi
 cp "$work/built" target/bin/key
+cp "$encoder" target/bin/list_to_file
 echo built >target/log/key.res
 echo stamp >target/stamp/key
+echo stamp >target/stamp/list_to_file
 END
 chmod +x "$work/bin/rt"
 export PATH="$work/bin:$PATH"
@@ -70,7 +73,13 @@ run "the caller's file, not the repository's of that name" 0 key samples/k1; pri
 run "standard input" 0 key - <"a file"; prints "$work/k1.key"
 run "a refused file has a key" 0 key - </dev/null; prints "$work/file14"
 run "a missing file among others" 1 key none "a file" .; prints "$work/under-its-name"; says "none: no such file"; says "is a folder"
-run "samples" 0 key; [ "$(grep -c '^samples/' "$work/out")" -eq 2 ] || wrong "not two samples"
+run "samples" 0 key; [ "$(grep -c '^samples/' "$work/out")" -eq "$(ls "$repository/samples" | wc -l)" ] || wrong "not every sample"
+run "a list in words" 0 key "$repository/samples/bridge.txt"; prints "$work/bridge.key"
+run "a list in words from standard input" 0 key - <"$repository/samples/bridge.txt"; prints "$work/bridge.key"
+printf 'create 0 client\n\nfrob 3\n' >"wrong list"
+run "a list that cannot be read" 1 key "wrong list"; prints /dev/null; says "wrong list: line 3: no such event"
+printf 'reply\001\n' >"no list"
+run "a file with a control byte is no list" 0 key "no list"; prints "$work/file14"
 run "a closed standard input" 1 bash -c 'key - <&-'
 run "a full device" 1 bash -c 'key "a file" >/dev/full'
 run "a closed standard output" 1 bash -c 'key "a file" >&-'
@@ -112,7 +121,7 @@ ended=0
 kill -TERM $! || true
 wait $! || ended=$?
 [ $ended -eq 143 ] || wrong "status $ended"
-says "proving key; 5 of 5 crates left"
+says "proving key; [0-9]* of [0-9]* crates left"
 rm "$work/slow"
 prover=$(cat "$work/prover")
 # one that has ended may still wait for its parent to notice
@@ -124,7 +133,7 @@ run "after an interruption" 0 key "a file"; prints "$work/k1.key"
 
 # ./check: rt ci says the words given and ends with the status given; the outside tests end as told.
 ci() { printf '%s\n' "$2" >"$work/ci"; echo "$1" >"$work/ci.status"; } # STATUS WORDS
-names="sequences compare documents sentences command"
+names="sequences compare words documents sentences command"
 tests() { # [NAME of the one that fails]
     local one
     for one in $names; do echo "exit 0" >"$repository/tests/$one.sh"; done

@@ -1,7 +1,8 @@
 #!/usr/bin/env bash
 # sequences.sh KEY_PROGRAM [NAME...]
 #
-# Runs KEY_PROGRAM on each list in sequences/ and compares with the key worked out by hand. K10 is no list: empty input gives 14.
+# Runs list_to_file, which stands beside it, and KEY_PROGRAM on each list in sequences/ and compares with the key worked out by hand. K10 is
+# no list: empty input gives 14.
 # Every list has an event, and its key a line for each.
 set -euo pipefail
 export LC_ALL=C
@@ -12,7 +13,7 @@ shift
 . "$here/program.sh"
 work=$(mktemp -d)
 trap 'rm -rf "$work"' EXIT
-rustc --edition 2021 -O -o "$work/encode" "$here/oracle/encode.rs"
+encoder=$(dirname "$program")/list_to_file
 cd "$here/sequences"
 if [ $# -eq 0 ]; then
     shopt -s nullglob
@@ -24,7 +25,8 @@ fi
 # One list against its key.
 agrees() { # NAME
     [ -f "$1.events" ] && [ -f "$1.key" ] || { echo "$1: not both .events and .key are there"; return 1; }
-    "$work/encode" <"$1.events" >"$work/file" || { echo "$1: the list cannot be encoded"; return 1; }
+    timeout -k 1 10 "$encoder" <"$1.events" >"$work/file" 2>"$work/said" || { echo "$1: list_to_file did not end well"; return 1; }
+    [ ! -s "$work/said" ] || { echo "$1: $(cat "$work/said")"; return 1; }
     local events lines
     events=$(sed 's/#.*//' "$1.events" | grep -c '[^[:space:]]' || true)
     lines=$(wc -l <"$1.key")
