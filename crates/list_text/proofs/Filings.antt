@@ -1,19 +1,18 @@
 -- What a list that is read says of its file: it has room, and its records are those of the lines; a list that is not read names a line.
-use Prim.Native.Nat.{ℕ, zero, suc, _+_, _-_, _≤_, _<_}
+use Prim.Native.Nat.{ℕ, _+_, _-_, _≤_}
 use native.Mathlib.Omega.{arith}
-use native.Mathlib.Nat.{zero-add}
 use mathlib.Core.Path.{_≡_, refl, sym, ap, ap₂, _∙_}
 use mathlib.Core.Bool.{Bool, true, false, cond}
-use mathlib.Core.List.{List, [], _∷_, _++_, append-assoc}
+use mathlib.Core.List.{List, [], _∷_, _++_}
 use lib.ListN.{length, take, drop, length-append}
 use lib.Dec.{ltb}
-use borrow.Author.Tests.{ltb-true, ltb-false}
+use borrow.Author.Tests.{ltb-false}
 use Rattle.rules.specs.declared.Event.{Event}
 use Rattle.rules.specs.EventFile.{recordOf, recordsOf, fourBytes, fileOf}
 use Rattle.rules.proofs.Basics.Views.{Two, yes-true, no-false, two}
 use Rattle.rules.proofs.Files.WrittenThenRead.{length-fileOf}
 use Rattle.text.specs.Put.{Put}
-use Rattle.text.proofs.Puts.{roomy, reading}
+use Rattle.text.proofs.Puts.{at-front, reading}
 use Rattle.list_text.specs.declared.Filed.{Filed}
 use Rattle.list_text.specs.declared.Line.{Line}
 use Rattle.list_text.specs.declared.Line.the-variants.{Empty, One, Wrong}
@@ -110,8 +109,8 @@ unfolding filedAs bufferAs
 accepted-write {before} {after} {to} (read es) lines filed g e h room p =
     let bytes = ap (λ (f : Filed). f .bytes) e in
     let size = length-fileOf es in
-    let whole = roomy (omega (arith, size, g .0)) (reading (file-is es lines (filed .bytes) bytes (g .1)) p) in
-    (e ∙ ap (λ (n : ℕ). record { bytes = n; line = 0; fault = 0 }) (sym size), rw zero-add at (whole .0))
+    let whole = at-front (omega (arith, size, g .0)) (reading (file-is es lines (filed .bytes) bytes (g .1)) p) in
+    (e ∙ ap (λ (n : ℕ). record { bytes = n; line = 0; fault = 0 }) (sym size), whole .1)
 accepted-write (refused line fault) lines filed g e h room p = absurd (omega (arith, g, h, ap (λ (f : Filed). f .line) e))
 
 -- the file is within the buffer

@@ -11,3 +11,4 @@ pub mod Numerals
 pub mod Taking
 pub mod Counting
 pub mod Filings
+pub mod Sentences

@@ -7,7 +7,7 @@ ghost use mathlib.Core.List.{List, _++_};
 ghost use lib.ListN.{length, take, drop};
 ghost use Rattle.list_text.specs.Writing.{fileText};
 ghost use Rattle.list_text.specs.Reading.{readText};
-ghost use Rattle.list_text.specs.Answers.{filedAs, bufferAs};
+ghost use Rattle.list_text.specs.Answers.{filedAs, bufferAs, sentence};
 
 mod filing;
 mod kinds;
@@ -20,7 +20,6 @@ mod writer;
 
 use event_file::reader::file_refusal;
 use rules::Event;
-pub use sentence::put_sentence;
 use text::put_file_line;
 
 // What a line holds: nothing, an event, or a fault by its number.
@@ -48,6 +47,9 @@ const LIST: usize = 1048577;
 
 // The most bytes of a file.
 pub const MOST: usize = 65536;
+
+// Room for every sentence: `sentence-fits`, proofs/Sentences.antt.
+pub const SENTENCE: usize = 64;
 
 fn file_zeros() -> [u8; FILE]
     ensures { λ r. ⌜ 65536 < length r ⌝ }
@@ -100,4 +102,12 @@ pub fn write_file(text: &[u8], out: &mut [u8; MOST]) -> Filed
     }
     filing::put_file(text, out, filed.bytes);
     filed
+}
+
+// Writes the sentence of a line's fault into a lent buffer, from its front, and gives its length. Every other byte stays.
+pub fn write_sentence(out: &mut [u8; SENTENCE], line: usize, fault: u8) -> usize
+    ensures { λ r. ⌜ (r ≡ length (sentence line fault))
+        × (now (out .exit) ≡ sentence line fault ++ drop (length (sentence line fault)) (now (out .entry))) ⌝ }
+{
+    sentence::put_sentence(out, 0, line, fault)
 }

@@ -1,5 +1,6 @@
 // Writes the event file of the list in words on standard input. What is wrong with the list goes to standard error.
 use list_text::MOST;
+use list_text::SENTENCE;
 
 // Room for every file.
 fn room() -> [u8; MOST] {
@@ -7,8 +8,8 @@ fn room() -> [u8; MOST] {
 }
 
 // Room for every sentence.
-fn sentence_room() -> [u8; 64] {
-    [0; 64]
+fn sentence_room() -> [u8; SENTENCE] {
+    [0; SENTENCE]
 }
 
 fn main() {
@@ -23,7 +24,7 @@ fn main() {
     let filed = list_text::write_file(&list[..n], &mut out);
     if filed.line != 0 {
         let mut sentence = sentence_room();
-        let end = list_text::put_sentence(&mut sentence, 0, filed.line, filed.fault);
+        let end = list_text::write_sentence(&mut sentence, filed.line, filed.fault);
         streams::complain(&sentence[..end]);
         return;
     }

@@ -1,5 +1,5 @@
 -- How many digits a number can have: one more for ten times the number.
-use Prim.Native.Nat.{ℕ, suc, _*_, _/_, _≤_, _<_}
+use Prim.Native.Nat.{ℕ, zero, suc, _*_, _/_, _≤_, _<_}
 use native.Mathlib.Omega.{arith}
 use lib.ListN.{length, length-append}
 use lib.Dec.{ltb}
@@ -8,26 +8,30 @@ use Rattle.rules.specs.Key.{decimal}
 use Rattle.rules.proofs.Basics.Views.{Two, yes-true, no-false, two}
 use Rattle.text.proofs.Decimals.{one-digit, last-digit}
 
-module _ (k bound : ℕ) (some : 1 ≤ k) (shorter : (m : ℕ) → m < bound → length (decimal m) ≤ k) where
-  by-size : (n : ℕ) → n < bound * 10 → Two (ltb n 10) → length (decimal n) ≤ suc k
-  by-size n h (yes-true e) = rw (one-digit n (ltb-true n 10 e)) (omega arith)
-  by-size n h (no-false e) =
+-- 10, 100, 1,000 and so on
+abbrev pub tens : ℕ → ℕ
+tens zero = 10
+tens (suc k) = tens k * 10
+
+module _ (k bound : ℕ) (shorter : (m : ℕ) → m < bound → length (decimal m) ≤ suc k) where
+  longer : (n : ℕ) → n < bound * 10 → Two (ltb n 10) → length (decimal n) ≤ suc (suc k)
+  longer n h (yes-true e) = rw (one-digit n (ltb-true n 10 e)) (omega arith)
+  longer n h (no-false e) =
       rw (last-digit n (ltb-false n 10 e), length-append) (omega (arith, shorter (n / 10) (omega arith)))
 
-  longer : (n : ℕ) → n < bound * 10 → length (decimal n) ≤ suc k
-  longer n h = by-size n h (two (ltb n 10))
-
-one-long : (n : ℕ) → n < 10 → length (decimal n) ≤ 1
-one-long n h = rw (one-digit n h) (omega arith)
+digits-most : (k n : ℕ) → n < tens k → length (decimal n) ≤ suc k
+digits-most zero n h = rw (one-digit n h) (omega arith)
+digits-most (suc k) n h = longer k (tens k) (digits-most k) n h (two (ltb n 10))
 
 pub two-long : (n : ℕ) → n < 100 → length (decimal n) ≤ 2
-two-long = longer 1 10 (omega arith) one-long
+two-long = digits-most 1
 
 pub three-long : (n : ℕ) → n < 1000 → length (decimal n) ≤ 3
-three-long = longer 2 100 (omega arith) two-long
-
-four-long : (n : ℕ) → n < 10000 → length (decimal n) ≤ 4
-four-long = longer 3 1000 (omega arith) three-long
+three-long = digits-most 2
 
 pub five-long : (n : ℕ) → n < 100000 → length (decimal n) ≤ 5
-five-long = longer 4 10000 (omega arith) four-long
+five-long = digits-most 4
+
+-- a number of eight bytes
+pub twenty-long : (n : ℕ) → n < 18446744073709551616 → length (decimal n) ≤ 20
+twenty-long n h = digits-most 19 n (omega arith)

@@ -1,6 +1,6 @@
 -- Laws of `Put`: a text after another is one text, because what the first leaves without room the second leaves too.
 use Prim.Native.Nat.{ℕ, zero, suc, _+_, _-_, _≤_, _<_}
-use native.Mathlib.Nat.{add-zero}
+use native.Mathlib.Nat.{add-zero, zero-add}
 use native.Mathlib.Numerals.{add-one, unary-clauses}
 use native.Mathlib.Omega.{arith}
 use mathlib.Core.Path.{_≡_, refl, sym, ap, _∙_}
@@ -12,16 +12,14 @@ use borrow.Author.Tests.{ltb-true, ltb-false}
 use Rattle.rules.proofs.Basics.Views.{Two, yes-true, no-false, two}
 use Rattle.text.specs.Put.{fitting, Put}
 
--- where there is room for the whole text, all of it is written
-pub roomy : {before after : List ℕ} {at to : ℕ} {text : List ℕ} → at + length text ≤ length before → Put before after at to text
-    → (after ≡ take at before ++ text ++ drop (at + length text) before) × (to ≡ at + length text)
-roomy {before} {after} {at} {to} {text} room p =
-    let whole : fitting before at text ≡ text = take-all (length before - at) text (omega arith) in
-    let end : to ≡ at + length text = p .end ∙ ap (λ (l : List ℕ). at + length l) whole in (
-      p .bytes
-          ∙ ap (λ (l : List ℕ). take at before ++ l ++ drop to before) whole
-          ∙ ap (λ (n : ℕ). take at before ++ text ++ drop n before) end,
+-- where there is room, the text stands at the buffer's front, and every other byte stays
+pub at-front : {before after : List ℕ} {to : ℕ} {text : List ℕ} → length text ≤ length before → Put before after 0 to text
+    → (to ≡ length text) × (after ≡ text ++ drop (length text) before)
+at-front {before} {after} {to} {text} room p =
+    let whole : fitting before 0 text ≡ text = take-all (length before - 0) text (omega arith) in
+    let end : to ≡ length text = rw zero-add at (p .end ∙ ap (λ (l : List ℕ). 0 + length l) whole) in (
       end,
+      p .bytes ∙ ap (λ (l : List ℕ). l ++ drop to before) whole ∙ ap (λ (n : ℕ). text ++ drop n before) end,
     )
 
 -- a put by what has room
@@ -115,7 +113,3 @@ _then_ {a} {b} {c} {i} {j} {k} {xs} {ys} p q = by (two (ltb (length a) i))
 -- the same text in other words
 pub reading : {a b : List ℕ} {i j : ℕ} {xs ys : List ℕ} → xs ≡ ys → Put a b i j xs → Put a b i j ys
 reading e p = rw e at p
-
--- a put that begins inside the buffer ends inside it
-pub put-inside : {a b : List ℕ} {i j : ℕ} {xs : List ℕ} → i ≤ length a → Put a b i j xs → j ≤ length b
-put-inside {a} {b} {i} {j} {xs} h p = omega (arith, p .end, keeps p, length-take (length a - i) xs)

@@ -3,8 +3,9 @@
 use native.Mathlib.Omega.{arith}
 use mathlib.Core.Path.{sym, _∙_}
 use denote.Ref.{now}
-use Rattle.text.proofs.Puts.{reading}
-use Rattle.key_sheet.proofs.Keys.{refused-key, accepted-key, at-front}
+use Rattle.text.proofs.Puts.{at-front, reading}
+use Rattle.key_sheet.proofs.Room.{key-fits}
+use Rattle.key_sheet.proofs.Keys.{refused-key, accepted-key}
 use Rattle.key_sheet.proofs.write_key.Statement.{statement}
 use Rattle.key_sheet.proofs.write_key.Tie as tie
 
@@ -14,7 +15,8 @@ returns c =
     let read = lent .before .before in
     let file = now (read .before .before .args .file) in
     let as-key = refused-key file (read .file-refusal .result) (read .file-refusal .ensures) (lent .before .if1 .taken) in
-    at-front file (λ i. read .before .shared-slice-known .given i .fits) (omega (arith, lent .put-file-line-arg .given .0 .1))
+    let fits = key-fits file (λ i. read .before .shared-slice-known .given i .fits) in
+    at-front (omega (arith, fits, lent .put-file-line-arg .given .0 .1))
     (reading as-key (c .put-file-line .ensures))
 
 put-lines-requires : tie.Need-put-lines-requires
@@ -28,7 +30,8 @@ returns-2 c =
     let read = lent .before .before in
     let file = now (read .before .before .args .file) in
     let as-key = accepted-key file (sym (read .file-refusal .ensures) ∙ lent .before .if1 .left) in
-    at-front file (λ i. read .before .shared-slice-known .given i .fits) (omega (arith, lent .put-lines-arg .given .0 .1))
+    let fits = key-fits file (λ i. read .before .shared-slice-known .given i .fits) in
+    at-front (omega (arith, fits, lent .put-lines-arg .given .0 .1))
     (reading as-key (c .put-lines .ensures))
 
 pub write-key-spec : {M : Type 1} → statement M

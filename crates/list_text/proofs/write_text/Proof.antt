@@ -3,8 +3,9 @@
 use native.Mathlib.Omega.{arith}
 use mathlib.Core.Path.{sym, _∙_}
 use denote.Ref.{now}
-use Rattle.text.proofs.Puts.{reading}
-use Rattle.list_text.proofs.Texts.{refused-text, accepted-text, at-front}
+use Rattle.text.proofs.Puts.{at-front, reading}
+use Rattle.list_text.proofs.Room.{text-fits}
+use Rattle.list_text.proofs.Texts.{refused-text, accepted-text}
 use native.Mathlib.Omega.{arith}
 use Rattle.list_text.proofs.write_text.Statement.{statement}
 use Rattle.list_text.proofs.write_text.Tie as tie
@@ -21,7 +22,8 @@ returns c =
     let read = lent .before .before in
     let file = now (read .before .before .args .file) in
     let as-text = refused-text file (read .file-refusal .result) (read .file-refusal .ensures) (lent .before .if1 .taken) in
-    at-front file (λ i. read .before .shared-slice-known .given i .fits) (omega (arith, lent .put-file-line-arg .given .0 .1))
+    let fits = text-fits file (λ i. read .before .shared-slice-known .given i .fits) in
+    at-front (omega (arith, fits, lent .put-file-line-arg .given .0 .1))
     (reading as-text (c .put-file-line .ensures))
 
 put-events-requires : tie.Need-put-events-requires
@@ -35,7 +37,8 @@ returns-2 c =
     let read = lent .before .before in
     let file = now (read .before .before .args .file) in
     let as-text = accepted-text file (sym (read .file-refusal .ensures) ∙ lent .before .if1 .left) in
-    at-front file (λ i. read .before .shared-slice-known .given i .fits) (omega (arith, lent .put-events-arg .given .0 .1))
+    let fits = text-fits file (λ i. read .before .shared-slice-known .given i .fits) in
+    at-front (omega (arith, fits, lent .put-events-arg .given .0 .1))
     (reading as-text (c .put-events .ensures))
 
 pub write-text-spec : {M : Type 1} → statement M

@@ -1,12 +1,9 @@
 -- What was read is within the list's buffer, the sentence and the file are within theirs.
 use native.Mathlib.Omega.{arith}
-use Prim.Native.Nat.{ℕ, _≤_}
-use mathlib.Core.Path.{sym, ap, _∙_}
-use lib.ListN.{length}
+use mathlib.Core.Path.{sym, ap}
+use lib.ListN.{length, length-append}
 use lib.Seq.{length-take-le}
-use Rattle.text.proofs.Puts.{put-inside}
 use Rattle.list_text.proofs.Filings.{filed-within}
-use native.Mathlib.Omega.{arith}
 use borrow.Author.Needs.{needs}
 use Rattle.list_to_file.proofs.main.Statement.{statement}
 use Rattle.list_to_file.proofs.main.Tie as tie
@@ -46,14 +43,12 @@ write-file-requires c κs = search needs
 sentence-room-requires : tie.Need-sentence-room-requires
 sentence-room-requires c κs = search needs
 
-slice-aggregate-put-sentence : tie.Need-slice-aggregate-put-sentence
-slice-aggregate-put-sentence c = search needs
-
-put-sentence-requires : tie.Need-put-sentence-requires
-put-sentence-requires c κs = search needs
+write-sentence-requires : tie.Need-write-sentence-requires
+write-sentence-requires c κs = search needs
 
 array-share-prefix-sentence : tie.Need-array-share-prefix-sentence
-array-share-prefix-sentence c = put-inside (omega arith) (c .before .put-sentence .ensures)
+array-share-prefix-sentence c =
+    omega (arith, simp length-append at (ap length (c .write-sentence .ensures .1)), c .write-sentence .ensures .0)
 
 slice-aggregate-complain-2 : tie.Need-slice-aggregate-complain-2
 slice-aggregate-complain-2 c = sym (length-take-le _ _ (array-share-prefix-sentence (c .before)))
@@ -100,8 +95,7 @@ main-spec =
     slice-aggregate-write-file
     write-file-requires
     sentence-room-requires
-    slice-aggregate-put-sentence
-    put-sentence-requires
+    write-sentence-requires
     array-share-prefix-sentence
     slice-aggregate-complain-2
     complain-requires-2
