@@ -11,3 +11,8 @@ pub mod Numerals
 pub mod Taking
 pub mod Counting
 pub mod Filings
+-- each undoes the other
+pub mod Joining
+pub mod Digits
+pub mod Spelling
+pub mod Inverse
