@@ -15,4 +15,5 @@ pub mod Filings
 pub mod Joining
 pub mod Digits
 pub mod Spelling
+pub mod Unspelling
 pub mod Inverse
