@@ -2,6 +2,7 @@
 use Prim.Native.Nat.{ℕ}
 use Prim.Native.String.{String}
 use mathlib.Core.Path.{_≡_, refl}
+use mathlib.Core.Bool.{Bool, true, false}
 use mathlib.Core.List.{List, [], _∷_}
 use Rattle.rules.specs.declared.Role.the-variants.{Client, Server}
 use Rattle.rules.specs.declared.Event.{Event}
@@ -10,6 +11,7 @@ use Rattle.rules.specs.Tests.{all}
 use Rattle.rules.specs.Key.{bytes, digits, decimal}
 use Rattle.list_text.specs.Writing.{eventWords, textOf}
 use Rattle.list_text.specs.Reading.{parts, uncommented, notEmpty, wordsOf, same, valueFrom, value, eventNamed, lineOf}
+use Rattle.list_text.specs.Form.{allPlain, plainLines, inWrittenForm}
 use Rattle.list_text.specs.Reading.{Answer, read, refused, readLines, lineAfter, readText}
 
 -- one event of each kind
@@ -44,3 +46,18 @@ faults :
     × (answer "charge 65536" ≡ refused 1 5) × (answer "create 1 Server" ≡ refused 1 6) × (answer "give 0 0 40 -1" ≡ refused 1 2)
 unfolding answer readText readLines lineOf eventNamed value valueFrom all same wordsOf notEmpty uncommented parts bytes
 faults = (refl, refl, refl, refl, refl, refl, refl, refl, refl)
+
+-- the written form
+form : String → Bool
+form s = inWrittenForm (bytes s)
+
+in-form : inWrittenForm text ≡ true
+unfolding inWrittenForm plainLines allPlain all parts bytes text
+in-form = refl
+
+not-in-form :
+    (form "reply" ≡ false) × (form "\nreply\n" ≡ false) × (form " reply\n" ≡ false) × (form "reply \n" ≡ false) ×
+    (form "call  10\n" ≡ false)
+    × (form "call 010\n" ≡ false) × (form "Reply\n" ≡ false) × (form "reply # at once\n" ≡ false) × (form "call\t10\n" ≡ false)
+unfolding form inWrittenForm plainLines allPlain all parts bytes
+not-in-form = (refl, refl, refl, refl, refl, refl, refl, refl, refl)

@@ -12,3 +12,9 @@ pub mod Taking
 pub mod Counting
 pub mod Filings
 pub mod Sentences
+-- each undoes the other
+pub mod Joining
+pub mod Digits
+pub mod Spelling
+pub mod Unspelling
+pub mod Inverse

@@ -48,7 +48,7 @@ line-length (Wake n) h = simp length-append (omega (arith, three-long n (omega (
 line-length (Charge units) h = simp length-append (omega (arith, five-long units (omega (arith, small (Charge units) h))))
 line-length (Abort n) h = simp length-append (omega (arith, three-long n (omega (arith, small (Abort n) h))))
 
-text-length : (es : List Event) → allFit es ≡ true → length (textOf es) ≤ 5 * length (recordsOf es)
+pub text-length : (es : List Event) → allFit es ≡ true → length (textOf es) ≤ 5 * length (recordsOf es)
 unfolding textOf recordsOf allFit bytes
 text-length [] h = omega arith
 text-length (e ∷ es) h =

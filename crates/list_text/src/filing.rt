@@ -106,13 +106,13 @@ fn line_after(text: &[u8]) -> usize
     requires { ⌜ length (now text) ≤ 1048576 ⌝ }
     ensures { λ r. ⌜ r ≡ lineAfter 1 (now (text .entry)) ⌝ }
 {
-    let mut line = 1;
+    let mut number = 1;
     let mut i = 0;
     while i < text.len() {
-        line = next_line(line, text[i]);
+        number = next_line(number, text[i]);
         i += 1;
     }
-    line
+    number
 }
 
 // What a list is refused for, or how many bytes its file has.

@@ -12,10 +12,10 @@ use Rattle.list_text.proofs.filing.line_after.Statement.{statement}
 use Rattle.list_text.proofs.filing.line_after.Tie as tie
 
 abbrev Inv-loop : tie.InvT-loop
-Inv-loop text line₀ i₀ line i = (line ≤ i + 1) × (lineAfter line (drop i text) ≡ lineAfter 1 text)
+Inv-loop text number₀ i₀ number i = (number ≤ i + 1) × (lineAfter number (drop i text) ≡ lineAfter 1 text)
 
 abbrev μ-loop : tie.MeasureT-loop
-μ-loop text line₀ i₀ line i = length text - i
+μ-loop text number₀ i₀ number i = length text - i
 
 loop-holds : tie.Need-loop-holds Inv-loop μ-loop
 loop-holds c = (omega arith, refl)
@@ -41,12 +41,12 @@ loop-again c =
     let i = turn .loop .i in (
       omega (arith, turn .loop .inv .0, c .next-line .ensures .1),
       ap (λ (n : ℕ). lineAfter n (drop (i + 1) text)) (c .next-line .ensures .0)
-          ∙ line-after-next text i (turn .loop .line) (c .before .before .loop-test .taken) ∙ turn .loop .inv .1,
+          ∙ line-after-next text i (turn .loop .number) (c .before .before .loop-test .taken) ∙ turn .loop .inv .1,
     )
 
 returns : tie.Need-returns Inv-loop μ-loop
 returns c =
-    line-after-all (now (c .before .before .before .args .text)) (c .before .loop .i) (c .before .loop .line) (c .loop-test .left)
+    line-after-all (now (c .before .before .before .args .text)) (c .before .loop .i) (c .before .loop .number) (c .loop-test .left)
     ∙ c .before .loop .inv .1
 
 pub line-after-spec : {M : Type 1} → statement M
