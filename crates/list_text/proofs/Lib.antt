@@ -1,3 +1,4 @@
+-- The laws of lists in words: the writer, the reader, and that each undoes the other.
 pub mod Examples
 -- the writer
 pub mod Printing
