@@ -16,4 +16,5 @@ pub mod Joining
 pub mod Digits
 pub mod Spelling
 pub mod Unspelling
+pub mod Formed
 pub mod Inverse
