@@ -27,6 +27,7 @@ use Rattle.list_text.proofs.Spelling.{wordList, AllWords, words-joined,
 use Rattle.list_text.proofs.Texts.{accepted-text}
 use Rattle.list_text.proofs.Filings.{Good, text-good}
 use Rattle.list_text.proofs.Formed.{event-plain, line-first}
+use Rattle.list_text.proofs.Bounded.{AllBounded, text-bounded}
 use Rattle.list_text.proofs.Unspelling.{AllPlain, all-plain, all-words, Read, read-named}
 
 -- a line of words, the first of which is there
@@ -182,3 +183,19 @@ list-to-file-to-list text es h = opened-text (parts lineFeed text) es (rw h at (
 pub written-list-back : (text : List ℕ) (es : List Event) → inWrittenForm text ≡ true → readText text ≡ read es
     → fileText (fileOf es) ≡ text
 written-list-back text es p h = list-to-file-to-list text es h ∙ sym (read-then-written text es p h)
+
+-- 6. READ, WRITTEN, READ AGAIN. What is read of any accepted list, with comments and blanks or without, fits its operands and a file;
+-- written
+-- in the written form it is read as the same events.
+pub record Readable (es : List Event) : Type 0 where
+  pub fitting : allFit es ≡ true
+  pub room : length (fileOf es) ≤ 65536
+
+readable : (lines : List (List ℕ)) (es : List Event) → AllBounded (read es) → Good 5 lines (read es) → Readable es
+readable lines es b g = record { fitting = b; room = omega (arith, g .0, length-fileOf es) }
+
+pub read-readable : (text : List ℕ) (es : List Event) → readText text ≡ read es → Readable es
+read-readable text es h = readable (parts lineFeed text) es (rw h at (text-bounded text)) (rw h at (text-good text))
+
+pub read-written-read : (text : List ℕ) (es : List Event) → readText text ≡ read es → readText (textOf es) ≡ read es
+read-written-read text es h = let r = read-readable text es h in written-then-read es (r .fitting) (r .room)

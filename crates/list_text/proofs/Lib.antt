@@ -17,4 +17,5 @@ pub mod Digits
 pub mod Spelling
 pub mod Unspelling
 pub mod Formed
+pub mod Bounded
 pub mod Inverse
