@@ -4,7 +4,7 @@ use native.Mathlib.Omega.{arith}
 use lib.ListN.{length, length-append}
 use lib.Dec.{ltb}
 use borrow.Author.Tests.{ltb-true, ltb-false}
-use Rattle.rules.specs.Key.{decimal}
+use Rattle.rules.specs.Key.{bytes, decimal, fileLine}
 use Rattle.rules.proofs.Basics.Views.{Two, yes-true, no-false, two}
 use Rattle.text.proofs.Decimals.{one-digit, last-digit}
 
@@ -31,3 +31,8 @@ four-long = longer 3 1000 (omega arith) three-long
 
 pub five-long : (n : ℕ) → n < 100000 → length (decimal n) ≤ 5
 five-long = longer 4 10000 (omega arith) four-long
+
+-- a refused file's line
+pub file-line-length : (number : ℕ) → number < 100 → length (fileLine number) ≤ 8
+unfolding fileLine bytes
+file-line-length number h = simp length-append (omega (arith, two-long number h))
