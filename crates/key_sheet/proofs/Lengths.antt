@@ -7,9 +7,9 @@ use lib.ListN.{length, length-append}
 use Rattle.rules.specs.declared.Running.{Running}
 use Rattle.rules.specs.declared.Running.the-variants.{Nothing, Runs}
 use Rattle.rules.specs.Events.{Answered}
-use Rattle.rules.specs.Key.{bytes, decimal, verdictWord, runningColumns, columns, line, lines, fileLine}
+use Rattle.rules.specs.Key.{bytes, decimal, verdictWord, runningColumns, columns, line, lines}
 use Rattle.rules.proofs.Bounds.{RunsNarrow, Narrow, AllNarrow}
-use Rattle.text.proofs.DigitCounts.{two-long, three-long, five-long}
+use Rattle.text.proofs.DigitCounts.{three-long, five-long}
 
 -- the columns of an answer of narrow numbers
 running-length : (r : Running) → RunsNarrow r → length (runningColumns r) ≤ 11
@@ -44,8 +44,3 @@ lines-length number [] x h = omega arith
 lines-length number (a ∷ rest) x h =
     rw length-append
     (omega (arith, line-length number a (omega arith) (x .0), lines-length (number + 1) rest (x .1) (omega arith)))
-
--- a refused file's line
-pub file-line-length : (number : ℕ) → number < 100 → length (fileLine number) ≤ 8
-unfolding fileLine bytes
-file-line-length number h = simp length-append (omega (arith, two-long number h))

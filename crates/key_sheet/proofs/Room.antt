@@ -15,7 +15,8 @@ use Rattle.rules.proofs.Soundness.Places.{sound-of}
 use Rattle.rules.proofs.Files.Records.{all-ranged}
 use Rattle.rules.proofs.Files.Accepting.{accepted}
 use Rattle.rules.proofs.Files.Inverse.{events-fit, events-most}
-use Rattle.key_sheet.proofs.Lengths.{lines-length, file-line-length}
+use Rattle.text.proofs.DigitCounts.{file-line-length}
+use Rattle.key_sheet.proofs.Lengths.{lines-length}
 
 -- by what the file is refused for
 fits-after : (n : ℕ) (file : List ℕ) → Bytes file → fileRefusal file ≡ n → length (keyAfter n file) ≤ 1048576

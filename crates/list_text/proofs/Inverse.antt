@@ -8,13 +8,15 @@ use lib.ListN.{length, take, length-append}
 use lib.Dec.{ltb}
 use borrow.Author.Tests.{le-ltb}
 use Rattle.rules.specs.declared.Event.{Event}
-use Rattle.rules.specs.EventFile.{fits, allFit, recordOf, recordsOf, fileOf}
+use Rattle.rules.specs.EventFile.{Bytes, fits, allFit, recordOf, recordsOf, fileOf, fileRefusal, eventsOf}
 use Rattle.rules.specs.Key.{bytes}
 use Rattle.rules.proofs.Basics.Views.{Two, yes-true, no-false, two, and-true-left, and-true-right}
-use Rattle.rules.proofs.Files.WrittenThenRead.{length-fileOf}
+use Rattle.rules.proofs.Files.Accepting.{accepted}
+use Rattle.rules.proofs.Files.WrittenThenRead.{length-fileOf, accepted-back, eventsOf-back}
+use Rattle.rules.proofs.Files.Inverse.{as-written, events-fit}
 use Rattle.list_text.specs.declared.Line.{Line}
 use Rattle.list_text.specs.declared.Line.the-variants.{Empty, One, Wrong}
-use Rattle.list_text.specs.Writing.{eventWords, textOf}
+use Rattle.list_text.specs.Writing.{eventWords, textOf, fileText}
 use Rattle.list_text.specs.Reading.{parts, lineFeed, uncommented, notEmpty, wordsOf, eventNamed, lineOfWords, lineOf}
 use Rattle.list_text.specs.Reading.{Answer, read, refused, withEvent, afterLine, readLines, lineAfter, readText}
 use Rattle.list_text.specs.Form.{isEmpty, space, plainLine, plainLines, inWrittenForm}
@@ -22,6 +24,10 @@ use Rattle.list_text.proofs.Fitting.{small}
 use Rattle.list_text.proofs.Room.{text-length}
 use Rattle.list_text.proofs.Joining.{joined, none-pass, parts-between, Some, some-part, parts-some, joined-parts}
 use Rattle.list_text.proofs.Spelling.{wordList, AllWords, words-joined, mark-free, line-of-joined, event-words, event-back}
+use Rattle.list_text.proofs.Texts.{accepted-text}
+use Rattle.list_text.proofs.Filings.{Good, text-good}
+use Rattle.list_text.proofs.Formed.{event-plain, line-first}
+use Rattle.list_text.proofs.Bounded.{AllBounded, text-bounded}
 use Rattle.list_text.proofs.Unspelling.{AllPlain, all-plain, all-words, Read, read-named}
 
 -- a line of words, the first of which is there
@@ -147,3 +153,49 @@ read-then-written text es p h = by (two (ltb 1048576 (length text)))
     by (no-false t) =
         let reads : readLines 1 5 (parts lineFeed text) ≡ read es = rw t at h in
         sym (joined-parts 10 text) ∙ lines-written (parts lineFeed text) 1 5 es p reads
+
+-- 3. What is written is in the written form.
+pub written-in-form : (es : List Event) → inWrittenForm (textOf es) ≡ true
+unfolding inWrittenForm plainLines textOf parts
+written-in-form [] = refl
+written-in-form (e ∷ es) =
+    rw (lines-back e (textOf es))
+    (line-first (eventWords e) (parts lineFeed (textOf es)) (parts-some lineFeed (textOf es)) (event-plain e) (written-in-form es))
+
+-- 4. FILE TO LIST TO FILE. The text of every accepted file of bytes is read as the file's events, and the file of these is that file.
+pub file-to-list-to-file : (file : List ℕ) → Bytes file → fileRefusal file ≡ 0
+    → (readText (fileText file) ≡ read (eventsOf file)) × (fileOf (eventsOf file) ≡ file)
+file-to-list-to-file file bytes h =
+    let same = as-written file bytes h in
+    let small : length (fileOf (eventsOf file)) ≤ 65536 = omega (arith, ap length same, accepted file h .head .small) in
+    (ap readText (sym (accepted-text file h)) ∙ written-then-read (eventsOf file) (events-fit file bytes) small, sym same)
+
+-- 5. LIST TO FILE TO LIST. The text of the file of an accepted list is what the writer makes of its events; of a list in the written form
+-- it is that list.
+opened-text : (lines : List (List ℕ)) (es : List Event) → Good 5 lines (read es) → fileText (fileOf es) ≡ textOf es
+opened-text lines es g =
+    let small : length (fileOf es) ≤ 65536 = omega (arith, g .0, length-fileOf es) in
+    sym (accepted-text (fileOf es) (accepted-back es small)) ∙ ap textOf (eventsOf-back es)
+
+pub list-to-file-to-list : (text : List ℕ) (es : List Event) → readText text ≡ read es → fileText (fileOf es) ≡ textOf es
+list-to-file-to-list text es h = opened-text (parts lineFeed text) es (rw h at (text-good text))
+
+pub written-list-back : (text : List ℕ) (es : List Event) → inWrittenForm text ≡ true → readText text ≡ read es
+    → fileText (fileOf es) ≡ text
+written-list-back text es p h = list-to-file-to-list text es h ∙ sym (read-then-written text es p h)
+
+-- 6. READ, WRITTEN, READ AGAIN. What is read of any accepted list, with comments and blanks or without, fits its operands and a file;
+-- written
+-- in the written form it is read as the same events.
+pub record Readable (es : List Event) : Type 0 where
+  pub fitting : allFit es ≡ true
+  pub room : length (fileOf es) ≤ 65536
+
+readable : (lines : List (List ℕ)) (es : List Event) → AllBounded (read es) → Good 5 lines (read es) → Readable es
+readable lines es b g = record { fitting = b; room = omega (arith, g .0, length-fileOf es) }
+
+pub read-readable : (text : List ℕ) (es : List Event) → readText text ≡ read es → Readable es
+read-readable text es h = readable (parts lineFeed text) es (rw h at (text-bounded text)) (rw h at (text-good text))
+
+pub read-written-read : (text : List ℕ) (es : List Event) → readText text ≡ read es → readText (textOf es) ≡ read es
+read-written-read text es h = let r = read-readable text es h in written-then-read es (r .fitting) (r .room)

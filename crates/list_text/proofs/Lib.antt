@@ -18,4 +18,6 @@ pub mod Joining
 pub mod Digits
 pub mod Spelling
 pub mod Unspelling
+pub mod Formed
+pub mod Bounded
 pub mod Inverse

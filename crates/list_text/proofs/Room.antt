@@ -12,13 +12,13 @@ use Rattle.rules.specs.declared.Role.the-variants.{Client, Server}
 use Rattle.rules.specs.declared.Event.{Event}
 use Rattle.rules.specs.declared.Event.the-variants.{Create, Give, Call, Reply, Block, Wake, Charge, Abort}
 use Rattle.rules.specs.EventFile.{Bytes, fits, allFit, recordOf, recordsOf, fileRefusal, eventsOf}
-use Rattle.rules.specs.Key.{bytes, fileLine, decimal}
+use Rattle.rules.specs.Key.{bytes, decimal}
 use Rattle.rules.proofs.Basics.Views.{and-true-left, and-true-right}
 use Rattle.rules.proofs.Bounds.{refusal-small}
 use Rattle.rules.proofs.Files.Accepting.{accepted}
 use Rattle.rules.proofs.Files.WrittenThenRead.{length-fileOf}
 use Rattle.rules.proofs.Files.Inverse.{events-fit, as-written}
-use Rattle.text.proofs.DigitCounts.{two-long, three-long, five-long}
+use Rattle.text.proofs.DigitCounts.{three-long, five-long, file-line-length}
 use Rattle.list_text.specs.Writing.{roleWord, eventWords, textOf, textAfter, fileText}
 use Rattle.list_text.proofs.Fitting.{small}
 
@@ -54,10 +54,6 @@ text-length [] h = omega arith
 text-length (e ∷ es) h =
     simp length-append
     (omega (arith, line-length e (and-true-left (fits e) (allFit es) h), text-length es (and-true-right (fits e) (allFit es) h)))
-
-file-line-length : (number : ℕ) → number < 100 → length (fileLine number) ≤ 8
-unfolding fileLine bytes
-file-line-length number h = simp length-append (omega (arith, two-long number h))
 
 -- by what the file is refused for
 fits-after : (n : ℕ) (file : List ℕ) → Bytes file → fileRefusal file ≡ n → length (textAfter n file) ≤ 1048576

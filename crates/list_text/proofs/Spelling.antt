@@ -78,23 +78,25 @@ no-blank b e =
     let low = letter-bounds b e in
     simp (ne-eqb b 32 (omega arith), ne-eqb b 9 (omega arith), ne-eqb b 13 (omega arith))
 
--- a mark that no word has and that is no space
-module _ (mark : ℕ) (low : mark < 48) (other : 32 ≡ mark → ⊥) where
+-- a mark below the digits stands in no word; if it is no space, in no line of words
+module _ (mark : ℕ) (low : mark < 48) where
   abbrev test : ℕ → Bool
   test b = eqb b mark
 
   no-mark : (b : ℕ) → letterOrDigit b ≡ true → not (test b) ≡ true
   no-mark b e = simp (ne-eqb b mark (omega (arith, letter-bounds b e)))
 
-  pub mark-free : (ws : List (List ℕ)) → AllWords ws → none-pass test (joined 32 ws)
+  pub word-free : (w : List ℕ) → Word w → none-pass (λ b. eqb b mark) w
+  word-free w x = all-implies letterOrDigit (λ b. not (test b)) no-mark w (x .plain)
+
+  pub mark-free : (32 ≡ mark → ⊥) → (ws : List (List ℕ)) → AllWords ws → none-pass (λ b. eqb b mark) (joined 32 ws)
   unfolding joined all
-  mark-free [] a = refl
-  mark-free (w ∷ []) a = all-implies letterOrDigit (λ b. not (test b)) no-mark w (a .0 .plain)
-  mark-free (w ∷ next ∷ rest) a =
-      all-append (λ b. not (test b)) w (32 ∷ joined 32 (next ∷ rest))
-      (all-implies letterOrDigit (λ b. not (test b)) no-mark w (a .0 .plain))
+  mark-free other [] a = refl
+  mark-free other (w ∷ []) a = word-free w (a .0)
+  mark-free other (w ∷ next ∷ rest) a =
+      all-append (λ b. not (test b)) w (32 ∷ joined 32 (next ∷ rest)) (word-free w (a .0))
       (and-true-both (not (test 32)) (all (λ b. not (test b)) (joined 32 (next ∷ rest))) (ap not (ne-eqb 32 mark other))
-      (mark-free (next ∷ rest) (a .1)))
+      (mark-free other (next ∷ rest) (a .1)))
 
 -- the words of a line of words
 some-kept : (w : List ℕ) (rest : List (List ℕ)) → isEmpty w ≡ false → ifSome w rest ≡ w ∷ rest

@@ -4,7 +4,7 @@ use native.Mathlib.Omega.{arith}
 use lib.ListN.{length, length-append}
 use lib.Dec.{ltb}
 use borrow.Author.Tests.{ltb-true, ltb-false}
-use Rattle.rules.specs.Key.{decimal}
+use Rattle.rules.specs.Key.{bytes, decimal, fileLine}
 use Rattle.rules.proofs.Basics.Views.{Two, yes-true, no-false, two}
 use Rattle.text.proofs.Decimals.{one-digit, last-digit}
 
@@ -35,3 +35,8 @@ five-long = digits-most 4
 -- a number of eight bytes
 pub twenty-long : (n : ℕ) → n < 18446744073709551616 → length (decimal n) ≤ 20
 twenty-long n h = digits-most 19 n (omega arith)
+
+-- a refused file's line
+pub file-line-length : (number : ℕ) → number < 100 → length (fileLine number) ≤ 8
+unfolding fileLine bytes
+file-line-length number h = simp length-append (omega (arith, two-long number h))

@@ -32,7 +32,9 @@ array-share-prefix-file : tie.Need-array-share-prefix-file
 array-share-prefix-file c = search needs
 
 slice-aggregate-write-text : tie.Need-slice-aggregate-write-text
-slice-aggregate-write-text c = sym (length-take-le _ _ (c .before .before .before .before .fill .ensures .within))
+slice-aggregate-write-text c =
+    let at-fill = c .before .before .before .before in
+    sym (length-take-le _ _ (at-fill .fill .ensures .within))
 
 write-text-requires : tie.Need-write-text-requires
 write-text-requires c κs = search needs
