@@ -185,8 +185,7 @@ pub written-list-back : (text : List ℕ) (es : List Event) → inWrittenForm te
 written-list-back text es p h = list-to-file-to-list text es h ∙ sym (read-then-written text es p h)
 
 -- 6. READ, WRITTEN, READ AGAIN. What is read of any accepted list, with comments and blanks or without, fits its operands and a file;
--- written
--- in the written form it is read as the same events.
+-- written, it is read as the same events.
 pub record Readable (es : List Event) : Type 0 where
   pub fitting : allFit es ≡ true
   pub room : length (fileOf es) ≤ 65536
