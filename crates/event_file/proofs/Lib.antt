@@ -2,6 +2,7 @@
 pub mod Shapes
 pub mod Reading
 pub mod Cursor
+pub mod Steps
 pub mod HeldFile
 pub mod Loan
 pub mod Demand

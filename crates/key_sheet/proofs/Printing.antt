@@ -70,7 +70,7 @@ module _ {file before now : List ℕ} {at offset number : ℕ} {m : Machine} (g 
 
     -- each event moves on, within the file
     pub further : (offset < next) × (next ≤ length file)
-    further = let n = goes-on (g .ahead) found moved given in (n .further, n .ahead .inside)
+    further = let n = goes-on (g .ahead) found moved given in (n .further, n .ahead .left .inside)
 
   -- without an event all is put
   pub done : (f : Found) → OneOf (1 ∷ 2 ∷ []) (tagOf the-type f) → shownFound f ≡ stepped file offset .found
