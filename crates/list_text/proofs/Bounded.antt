@@ -1,8 +1,8 @@
 -- What is read fits: a number is taken only up to the most there can be.
-use Prim.Native.Nat.{ℕ, zero, suc, _+_, _/_, _%_, _≤_, _<_}
+use Prim.Native.Nat.{ℕ, _+_, _/_, _%_, _≤_}
 use native.Mathlib.Omega.{arith}
 use mathlib.Core.Path.{_≡_, refl}
-use mathlib.Core.Bool.{Bool, true, false, cond, _&&_}
+use mathlib.Core.Bool.{Bool, true, false, cond}
 use mathlib.Core.List.{List, [], _∷_}
 use lib.ListN.{length}
 use lib.Dec.{leb, ltb}
@@ -14,12 +14,12 @@ use Rattle.rules.specs.declared.Event.the-variants.{Create, Give, Call, Reply, 
 use Rattle.rules.specs.Tests.{all}
 use Rattle.rules.specs.EventFile.{byte, roleByte, fits, allFit, recordOf}
 use Rattle.rules.specs.Key.{bytes}
-use Rattle.rules.proofs.Basics.Views.{Two, yes-true, no-false, two, and-true-both}
+use Rattle.rules.proofs.Basics.Views.{and-true-both}
 use Rattle.rules.proofs.Basics.Members.{all-cons}
 use Rattle.list_text.specs.declared.Line.{Line}
 use Rattle.list_text.specs.declared.Line.the-variants.{Empty, One, Wrong}
 use Rattle.list_text.specs.Reading.{parts, lineFeed, wordsOf, uncommented, digitByte, value, number, eventNamed, lineOfWords, lineOf}
-use Rattle.list_text.specs.Reading.{Answer, read, refused, withEvent, afterLine, readLines, lineAfter, readText}
+use Rattle.list_text.specs.Reading.{Answer, read, refused, withEvent, afterLine, readLines, readText}
 use Rattle.list_text.specs.Reading as words
 
 -- bytes in a row

@@ -1,19 +1,17 @@
 -- Line by line: what is counted or put and what the lines that are left give make the whole.
-use Prim.Native.Nat.{ℕ, zero, suc, _+_, _-_, _/_, _%_, _≤_, _<_}
+use Prim.Native.Nat.{ℕ, suc, _+_, _-_, _/_, _%_, _≤_, _<_}
 use native.Mathlib.Omega.{arith}
 use native.Mathlib.Numerals.{add-one}
-use mathlib.Core.Path.{_≡_, refl, sym, ap, ap₂, _∙_}
+use mathlib.Core.Path.{_≡_, refl, sym, ap, _∙_}
 use mathlib.Core.Bool.{Bool, true, false, cond}
 use mathlib.Core.List.{List, [], _∷_, _++_, append-assoc, append-nil}
 use lib.ListN.{length, getD, take, drop, length-drop, length-append, drop-of-length-le}
 use lib.Seq.{drop-drop, drop-cons, length-take-le}
-use lib.Dec.{ltb}
 use borrow.Author.Tests.{lt-ltb, le-ltb}
 use Rattle.rules.specs.declared.Event.{Event}
 use Rattle.rules.specs.EventFile.{highByte, lowByte, recordOf, recordsOf, fourBytes}
 use Rattle.text.specs.Put.{Put}
 use Rattle.text.proofs.Puts.{put-none, _then_, reading}
-use Rattle.list_text.specs.declared.Filed.{Filed}
 use Rattle.list_text.specs.declared.Line.{Line}
 use Rattle.list_text.specs.declared.Line.the-variants.{Empty, One, Wrong}
 use Rattle.list_text.specs.declared.scan.Until.the-variants.{LineFeed}

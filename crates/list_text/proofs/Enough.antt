@@ -7,7 +7,6 @@ use lib.Dec.{ltb}
 use lib.ListN.{length, take}
 use lib.Seq.{take-all, take-take, length-take-le}
 use borrow.Author.Tests.{lt-ltb, ltb-true, ltb-false}
-use Rattle.rules.specs.EventFile.{fileRefusal}
 use Rattle.rules.specs.Key.{fileLine}
 use Rattle.rules.proofs.Basics.Views.{Two, yes-true, no-false, two}
 use Rattle.rules.proofs.Files.Refusing.{refuses-long}

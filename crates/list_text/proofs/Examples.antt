@@ -12,7 +12,7 @@ use Rattle.rules.specs.Key.{bytes, digits, decimal}
 use Rattle.list_text.specs.Writing.{eventWords, textOf}
 use Rattle.list_text.specs.Reading.{parts, uncommented, notEmpty, wordsOf, same, valueFrom, value, eventNamed, lineOf}
 use Rattle.list_text.specs.Form.{allPlain, plainLines, inWrittenForm}
-use Rattle.list_text.specs.Reading.{Answer, read, refused, readLines, lineAfter, readText}
+use Rattle.list_text.specs.Reading.{Answer, read, refused, readLines, readText}
 
 -- one event of each kind
 events : List Event

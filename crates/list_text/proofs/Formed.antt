@@ -1,8 +1,8 @@
 -- What is written is in the written form: an event's words are plain, and no decimal begins with a zero but that of 0.
 use Prim.Native.Nat.{ℕ, zero, suc, _+_, _/_, _%_, _≤_, _<_}
 use native.Mathlib.Omega.{arith}
-use mathlib.Core.Path.{_≡_, refl, sym, ap, ap₂, _∙_}
-use mathlib.Core.Bool.{Bool, true, false, not, _&&_}
+use mathlib.Core.Path.{_≡_, refl, ap, _∙_}
+use mathlib.Core.Bool.{true, false}
 use mathlib.Core.List.{List, [], _∷_, _++_}
 use lib.Dec.{ltb, eqb}
 use borrow.Author.Tests.{ltb-true, ltb-false, ne-eqb}
@@ -15,9 +15,9 @@ use Rattle.rules.specs.Key.{bytes, digit, decimal}
 use Rattle.rules.proofs.Basics.Views.{Two, yes-true, no-false, two, and-true-both}
 use Rattle.text.proofs.Decimals.{one-digit, last-digit}
 use Rattle.list_text.specs.Writing.{roleWord, eventWords}
-use Rattle.list_text.specs.Reading.{parts, digitByte}
-use Rattle.list_text.specs.Form.{letterOrDigit, leadingZero, isEmpty, plainWord, space, allPlain, plainLine, plainLines}
-use Rattle.list_text.proofs.Joining.{joined, none-pass, parts-between, parts-alone, Some, some-part}
+use Rattle.list_text.specs.Reading.{parts}
+use Rattle.list_text.specs.Form.{leadingZero, plainWord, space, allPlain, plainLine, plainLines}
+use Rattle.list_text.proofs.Joining.{joined, parts-between, parts-alone, Some, some-part}
 use Rattle.list_text.proofs.Spelling.{wordList, Word, AllWords, words-joined, word-free, decimal-word, event-words}
 
 -- a decimal above 0 begins with another digit than 0

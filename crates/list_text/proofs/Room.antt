@@ -1,18 +1,17 @@
 -- THE THEOREM of the buffer: the text of every file of bytes has room in 1 MiB, because an event's line has at most five bytes for each
 -- byte of its record, and a file at most 65,536 bytes.
-use Prim.Native.Nat.{ℕ, zero, suc, _+_, _*_, _≤_, _<_}
+use Prim.Native.Nat.{ℕ, zero, suc, _+_, _*_, _≤_}
 use native.Mathlib.Omega.{arith}
 use mathlib.Core.Path.{_≡_, refl, ap}
-use mathlib.Core.Bool.{true, _&&_}
+use mathlib.Core.Bool.{true}
 use mathlib.Core.List.{List, [], _∷_}
 use lib.ListN.{length, length-append}
-use borrow.Author.Tests.{leb-true}
 use Rattle.rules.specs.declared.Role.{Role}
 use Rattle.rules.specs.declared.Role.the-variants.{Client, Server}
 use Rattle.rules.specs.declared.Event.{Event}
 use Rattle.rules.specs.declared.Event.the-variants.{Create, Give, Call, Reply, Block, Wake, Charge, Abort}
 use Rattle.rules.specs.EventFile.{Bytes, fits, allFit, recordOf, recordsOf, fileRefusal, eventsOf}
-use Rattle.rules.specs.Key.{bytes, decimal}
+use Rattle.rules.specs.Key.{bytes}
 use Rattle.rules.proofs.Basics.Views.{and-true-left, and-true-right}
 use Rattle.rules.proofs.Bounds.{refusal-small}
 use Rattle.rules.proofs.Files.Accepting.{accepted}

@@ -1,18 +1,15 @@
 -- A scan finds the first part of a text; the other parts begin after it.
-use Prim.Native.Nat.{ℕ, zero, suc, _+_, _-_, _≤_, _<_}
+use Prim.Native.Nat.{ℕ, suc, _+_, _-_, _≤_, _<_}
 use native.Mathlib.Omega.{arith}
-use native.Mathlib.Nat.{add-zero, add-sub-cancel-left}
 use native.Mathlib.Numerals.{add-one}
 use mathlib.Core.Path.{_≡_, refl, sym, ap, ap₂, _∙_}
-use mathlib.Core.Bool.{Bool, true, false, cond, not}
+use mathlib.Core.Bool.{Bool, true, false, cond}
 use mathlib.Core.List.{List, [], _∷_}
 use lib.ListN.{length, getD, take, drop, length-drop, drop-of-length-le}
 use lib.Seq.{drop-cons, drop-drop}
-use lib.Dec.{ltb}
 use Rattle.rules.proofs.Basics.Views.{Two, yes-true, no-false, two}
-use Rattle.list_text.specs.declared.scan.Until.{Until}
-use Rattle.list_text.specs.declared.scan.Until.the-variants.{LineFeed, Hash, Blank, Word}
-use Rattle.list_text.specs.Reading.{parts, lineFeed, hash, firstOf, uncommented, blank, notEmpty, wordsOf}
+use Rattle.list_text.specs.declared.scan.Until.the-variants.{Hash, Blank, Word}
+use Rattle.list_text.specs.Reading.{parts, hash, firstOf, uncommented, blank, notEmpty, wordsOf}
 use Rattle.list_text.specs.Scanning.{stops, endOf}
 
 -- at a place: the scan stops here, or goes on, or the text is over

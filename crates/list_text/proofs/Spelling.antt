@@ -1,9 +1,9 @@
 -- The words of an event, and that a line of words is read as them: no word has a blank, a line feed or `#` in it.
-use Prim.Native.Nat.{ℕ, zero, suc, _+_, _≤_, _<_}
+use Prim.Native.Nat.{ℕ, _≤_, _<_}
 use native.Mathlib.Omega.{arith}
-use mathlib.Core.Path.{_≡_, refl, sym, ap, ap₂, _∙_, subst}
-use mathlib.Core.Bool.{Bool, true, false, cond, not, _&&_, _||_}
-use mathlib.Core.List.{List, [], _∷_, _++_, append-assoc}
+use mathlib.Core.Path.{_≡_, refl, ap, _∙_}
+use mathlib.Core.Bool.{Bool, true, false, not, _&&_}
+use mathlib.Core.List.{List, [], _∷_, append-assoc}
 use lib.Dec.{leb, eqb}
 use borrow.Author.Tests.{le-leb, leb-true, ne-eqb}
 use Rattle.rules.specs.declared.Role.{Role}
@@ -11,19 +11,18 @@ use Rattle.rules.specs.declared.Role.the-variants.{Client, Server}
 use Rattle.rules.specs.declared.Event.{Event}
 use Rattle.rules.specs.declared.Event.the-variants.{Create, Give, Call, Reply, Block, Wake, Charge, Abort}
 use Rattle.rules.specs.Tests.{all}
-use Rattle.rules.specs.EventFile.{fits}
 use Rattle.rules.specs.Key.{bytes, decimal}
 use Rattle.rules.proofs.Basics.Views.{Two, yes-true, no-false, two, Either, first, second, or-true-cases, and-true-left, and-true-right}
 use Rattle.rules.proofs.Basics.Views.{and-true-both}
 use Rattle.list_text.specs.declared.Line.{Line}
-use Rattle.list_text.specs.declared.Line.the-variants.{Empty, One, Wrong}
+use Rattle.list_text.specs.declared.Line.the-variants.{One}
 use Rattle.list_text.specs.Writing.{roleWord, eventWords}
-use Rattle.list_text.specs.Reading.{parts, lineFeed, hash, firstOf, uncommented, blank, ifSome, notEmpty, wordsOf, digitByte, value}
+use Rattle.list_text.specs.Reading.{parts, hash, firstOf, uncommented, blank, ifSome, notEmpty, wordsOf, digitByte}
 use Rattle.list_text.specs.Reading.{number}
 use Rattle.list_text.specs.Reading.{eventNamed, lineOfWords, lineOf}
 use Rattle.list_text.specs.Reading as words
 use Rattle.list_text.specs.Form.{letterOrDigit, isEmpty}
-use Rattle.list_text.proofs.Fitting.{Small, small}
+use Rattle.list_text.proofs.Fitting.{Small}
 use Rattle.list_text.proofs.Joining.{joined, none-pass, parts-between, parts-alone}
 use Rattle.list_text.proofs.Digits.{all-append, decimal-some, decimal-digits, decimal-value, digit-bounds}
 

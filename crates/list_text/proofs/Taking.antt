@@ -1,8 +1,8 @@
 -- Words taken one after the other: each takes its fault or its value, and leaves the words after it; the first fault is the line's.
-use Prim.Native.Nat.{ℕ, zero, suc, _+_, _≤_, _<_}
+use Prim.Native.Nat.{ℕ, zero, suc, _≤_, _<_}
 use native.Mathlib.Omega.{arith}
-use mathlib.Core.Path.{_≡_, refl, sym, ap, ap₂, _∙_}
-use mathlib.Core.Bool.{Bool, true, false, cond}
+use mathlib.Core.Path.{_≡_, refl, sym, ap, _∙_}
+use mathlib.Core.Bool.{true, false}
 use mathlib.Core.List.{List, [], _∷_}
 use lib.ListN.{drop}
 use lib.Dec.{leb}
@@ -18,7 +18,7 @@ use Rattle.list_text.specs.declared.Line.{Line}
 use Rattle.list_text.specs.declared.Line.the-variants.{One, Wrong}
 use Rattle.list_text.specs.Reading.{wordsOf, digitByte, valueFrom, value, number, last, create, give}
 use Rattle.list_text.specs.Reading as words
-use Rattle.list_text.specs.Scanning.{capped, numeral, orWrong, firstFault, TakesNumber, TakesRole, TakesNothing}
+use Rattle.list_text.specs.Scanning.{capped, numeral, orWrong, firstFault, TakesNumber, TakesRole, TakesNothing, TakesLast}
 
 -- what the number of a word says
 record IsNumber (n : ℕ) (word : List ℕ) : Type 0 where
@@ -108,11 +108,14 @@ in-turn : (fault a b : ℕ) (line after : Line) → fault ≡ firstFault a b →
 in-turn fault a b line after e f = rw e (first-is a b line ∙ ap (orWrong a) (sym f))
 
 -- one number and nothing else
-pub one-number : {line : List ℕ} {at most above fault value to over whole n : ℕ} (make : ℕ → Event)
-    → TakesNumber line at most above fault value to → TakesNothing line to over → whole ≡ firstFault fault over → n ≡ value
-    → orWrong whole (One (make n)) ≡ number most above (wordsOf (drop at line)) (λ m. last (make m))
-one-number {line} {at} {most} {above} {fault} {value} {to} {over} {whole} {n} make first end e same =
-    rw same (in-turn whole fault over (One (make value)) _ e (end .is (make value)) ∙ sym (first .is (λ m. last (make m))))
+pub takes-last : {line : List ℕ} {at most above fault value to over whole : ℕ} → TakesNumber line at most above fault value to
+    → TakesNothing line to over → whole ≡ firstFault fault over → TakesLast line at most above whole value
+takes-last {line} {at} {most} {above} {fault} {value} {to} {over} {whole} first end e =
+    record {
+      is =
+          λ make. first .is (λ n. last (make n))
+          ∙ sym (in-turn whole fault over (One (make value)) _ e (end .is (make value)));
+    }
 
 pub create-words : {line : List ℕ} {at fault value to fault′ to′ over rest whole n : ℕ} {r : Role}
     → TakesNumber line at 255 4 fault value to → TakesRole line to fault′ r to′ → TakesNothing line to′ over

@@ -3,7 +3,7 @@ use Prim.Native.Nat.{ℕ}
 use Prim.Native.String.{String}
 use native.Mathlib.Omega.{arith}
 use mathlib.Core.Path.{_≡_, refl, sym, ap, ap₂, _∙_}
-use mathlib.Core.Bool.{Bool, true, false, cond, not, _&&_}
+use mathlib.Core.Bool.{Bool, true, false, cond, not}
 use mathlib.Core.List.{List, [], _∷_}
 use lib.Dec.{leb, eqb}
 use borrow.Author.Tests.{eqb-true}
@@ -13,11 +13,11 @@ use Rattle.rules.specs.declared.Event.{Event}
 use Rattle.rules.specs.declared.Event.the-variants.{Create, Give, Call, Reply, Block, Wake, Charge, Abort}
 use Rattle.rules.specs.Tests.{all}
 use Rattle.rules.specs.Key.{bytes, decimal}
-use Rattle.rules.proofs.Basics.Views.{Two, yes-true, no-false, two, and-true-left, and-true-right, and3}
+use Rattle.rules.proofs.Basics.Views.{and-true-left, and-true-right, and3}
 use Rattle.list_text.specs.declared.Line.{Line}
 use Rattle.list_text.specs.declared.Line.the-variants.{Empty, One, Wrong}
 use Rattle.list_text.specs.Writing.{roleWord}
-use Rattle.list_text.specs.Reading.{digitByte, value, number, eventNamed, lineOfWords}
+use Rattle.list_text.specs.Reading.{digitByte, value, number, eventNamed}
 use Rattle.list_text.specs.Reading as words
 use Rattle.list_text.specs.Form.{letterOrDigit, leadingZero, isEmpty, plainWord, allPlain}
 use Rattle.list_text.proofs.Digits.{value-decimal}

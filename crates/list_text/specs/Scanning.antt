@@ -2,7 +2,7 @@
 use Prim.Native.Nat.{ℕ, zero, suc, _+_}
 use mathlib.Core.Path.{_≡_}
 use mathlib.Core.List.{List, [], _∷_, _++_}
-use mathlib.Core.Bool.{Bool, true, false, cond, not}
+use mathlib.Core.Bool.{Bool, cond, not}
 use lib.ListN.{length, drop}
 use lib.Dec.{leb}
 use Rattle.rules.specs.declared.Role.{Role}
@@ -56,6 +56,10 @@ pub record TakesRole (line : List ℕ) (at fault : ℕ) (found : Role) (to : ℕ
 
 pub record TakesNothing (line : List ℕ) (at fault : ℕ) : Type 0 where
   pub is : (e : Event) → last e (wordsOf (drop at line)) ≡ orWrong fault (One e)
+
+-- the last operand, a number
+pub record TakesLast (line : List ℕ) (at most above fault value : ℕ) : Type 0 where
+  pub is : (make : ℕ → Event) → number most above (wordsOf (drop at line)) (λ n. last (make n)) ≡ orWrong fault (One (make value))
 
 -- what the code counts of an answer, where the file so far has `filled` bytes
 abbrev pub counted : ℕ → Answer → Filed

@@ -9,6 +9,7 @@ ghost use Rattle.list_text.specs.Scanning.{orWrong};
 ghost use Rattle.list_text.specs.declared.Line;
 use crate::Line;
 use crate::operands::first_fault;
+use crate::operands::take_last;
 use crate::operands::take_nothing;
 use crate::operands::take_number;
 use crate::operands::take_role;
@@ -83,41 +84,33 @@ fn give(line: &[u8], at: usize) -> Line
 fn call(line: &[u8], at: usize) -> Line
     ensures { λ r. ⌜ r ≡ reading.call (wordsOf (drop at (now (line .entry)))) ⌝ }
 {
-    let taken = take_number(line, at, 255, 4);
-    let last = take_nothing(line, taken.to);
-    let fault = first_fault(taken.fault, last);
-    let server = narrow(taken.value);
-    answer(fault, Event::Call { server })
+    let last = take_last(line, at, 255, 4);
+    let server = narrow(last.value);
+    answer(last.fault, Event::Call { server })
 }
 
 fn wake(line: &[u8], at: usize) -> Line
     ensures { λ r. ⌜ r ≡ reading.wake (wordsOf (drop at (now (line .entry)))) ⌝ }
 {
-    let taken = take_number(line, at, 255, 4);
-    let last = take_nothing(line, taken.to);
-    let fault = first_fault(taken.fault, last);
-    let thread = narrow(taken.value);
-    answer(fault, Event::Wake { thread })
+    let last = take_last(line, at, 255, 4);
+    let thread = narrow(last.value);
+    answer(last.fault, Event::Wake { thread })
 }
 
 fn charge(line: &[u8], at: usize) -> Line
     ensures { λ r. ⌜ r ≡ reading.charge (wordsOf (drop at (now (line .entry)))) ⌝ }
 {
-    let taken = take_number(line, at, 65535, 5);
-    let last = take_nothing(line, taken.to);
-    let fault = first_fault(taken.fault, last);
-    let units = taken.value;
-    answer(fault, Event::Charge { units })
+    let last = take_last(line, at, 65535, 5);
+    let units = last.value;
+    answer(last.fault, Event::Charge { units })
 }
 
 fn abort(line: &[u8], at: usize) -> Line
     ensures { λ r. ⌜ r ≡ reading.abort (wordsOf (drop at (now (line .entry)))) ⌝ }
 {
-    let taken = take_number(line, at, 255, 4);
-    let last = take_nothing(line, taken.to);
-    let fault = first_fault(taken.fault, last);
-    let thread = narrow(taken.value);
-    answer(fault, Event::Abort { thread })
+    let last = take_last(line, at, 255, 4);
+    let thread = narrow(last.value);
+    answer(last.fault, Event::Abort { thread })
 }
 
 // An event without operands.

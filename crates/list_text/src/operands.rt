@@ -1,7 +1,7 @@
 // What stands after an event's name, taken word by word.
 ghost use mathlib.Core.Path.{_≡_};
 ghost use Prim.Native.Nat.{_≤_};
-ghost use Rattle.list_text.specs.Scanning.{TakesNumber, TakesRole, TakesNothing, firstFault};
+ghost use Rattle.list_text.specs.Scanning.{TakesNumber, TakesRole, TakesNothing, TakesLast, firstFault};
 use crate::scan::Until;
 use crate::scan::scan;
 use crate::words::number;
@@ -13,6 +13,12 @@ pub struct Number {
     pub fault: u8,
     pub value: u16,
     pub to: usize,
+}
+
+// A number that was taken as the last operand, and the line's fault from there on or 0.
+pub struct Last {
+    pub fault: u8,
+    pub value: u16,
 }
 
 pub struct Taken {
@@ -109,4 +115,19 @@ pub fn first_fault(a: u8, b: u8) -> u8
         return a;
     }
     b
+}
+
+// The last operand, where it is a number.
+pub fn take_last(line: &[u8], at: usize, most: u16, above: u8) -> Last
+    requires { ⌜ 1 ≤ above ⌝ }
+    ensures { λ r. ⌜ TakesLast (now (line .entry)) at most above (r .fault) (r .value) ⌝ }
+    ensures bounded { λ r. ⌜ r .value ≤ most ⌝ }
+{
+    let taken = take_number(line, at, most, above);
+    let nothing = take_nothing(line, taken.to);
+    let fault = first_fault(taken.fault, nothing);
+    Last {
+        fault,
+        value: taken.value,
+    }
 }

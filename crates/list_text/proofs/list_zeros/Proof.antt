@@ -2,7 +2,6 @@
 use Prim.Native.Nat.{ℕ, _<_}
 use lib.ListN.{length, replicate, length-replicate}
 use native.Mathlib.Omega.{arith}
-use native.Mathlib.Omega.{arith}
 use Rattle.list_text.proofs.list_zeros.Statement.{statement}
 use Rattle.list_text.proofs.list_zeros.Tie as tie
 

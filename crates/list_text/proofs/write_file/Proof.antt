@@ -4,7 +4,6 @@ use denote.Ref.{now}
 use Rattle.list_text.specs.Reading.{parts, lineFeed, readText}
 use Rattle.list_text.proofs.Filings.{text-good, refused-write, sized, accepted-write}
 use native.Mathlib.Omega.{arith}
-use native.Mathlib.Omega.{arith}
 use Rattle.list_text.proofs.write_file.Statement.{statement}
 use Rattle.list_text.proofs.write_file.Tie as tie
 

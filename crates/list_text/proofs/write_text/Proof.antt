@@ -6,7 +6,6 @@ use denote.Ref.{now}
 use Rattle.text.proofs.Puts.{at-front, reading}
 use Rattle.list_text.proofs.Room.{text-fits}
 use Rattle.list_text.proofs.Texts.{refused-text, accepted-text}
-use native.Mathlib.Omega.{arith}
 use Rattle.list_text.proofs.write_text.Statement.{statement}
 use Rattle.list_text.proofs.write_text.Tie as tie
 

@@ -1,7 +1,6 @@
 -- Each kind of line: nothing, an event that still has room, one that has none, a fault.
 use Rattle.list_text.proofs.Counting.{counts-empty, counts-wrong, counts-too-long, counts-one}
 use native.Mathlib.Omega.{arith}
-use native.Mathlib.Omega.{arith}
 use borrow.Author.Needs.{needs}
 use Rattle.list_text.proofs.filing.count_line.Statement.{statement}
 use Rattle.list_text.proofs.filing.count_line.Tie as tie

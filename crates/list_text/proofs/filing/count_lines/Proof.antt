@@ -5,7 +5,6 @@ use denote.Ref.{now}
 use Rattle.list_text.proofs.Counting.{Counting, counting-begins, line-within, counted-wrong, counted-all, counted-on}
 use native.Mathlib.Omega.{arith}
 use borrow.Author.Needs.{needs}
-use native.Mathlib.Omega.{arith}
 use Rattle.list_text.proofs.filing.count_lines.Statement.{statement}
 use Rattle.list_text.proofs.filing.count_lines.Tie as tie
 

@@ -7,7 +7,6 @@ use Rattle.list_text.specs.Reading.{lineAfter}
 use Rattle.list_text.proofs.Counting.{line-after-next, line-after-all}
 use native.Mathlib.Omega.{arith}
 use borrow.Author.Needs.{needs}
-use native.Mathlib.Omega.{arith}
 use Rattle.list_text.proofs.filing.line_after.Statement.{statement}
 use Rattle.list_text.proofs.filing.line_after.Tie as tie
 

@@ -1,7 +1,6 @@
 -- A line feed ends the line.
 use borrow.Author.Tests.{eq-eqb, ne-eqb}
 use native.Mathlib.Omega.{arith}
-use native.Mathlib.Omega.{arith}
 use borrow.Author.Needs.{needs}
 use Rattle.list_text.proofs.filing.next_line.Statement.{statement}
 use Rattle.list_text.proofs.filing.next_line.Tie as tie

@@ -6,7 +6,6 @@ use Rattle.text.proofs.Puts.{keeps}
 use Rattle.list_text.proofs.Counting.{Filling, filling-begins, line-within, filled-all, filled-on}
 use native.Mathlib.Omega.{arith}
 use borrow.Author.Needs.{needs}
-use native.Mathlib.Omega.{arith}
 use Rattle.list_text.proofs.filing.put_lines.Statement.{statement}
 use Rattle.list_text.proofs.filing.put_lines.Tie as tie
 

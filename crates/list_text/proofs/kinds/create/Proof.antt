@@ -2,7 +2,6 @@
 use mathlib.Core.Path.{_∙_}
 use Rattle.list_text.proofs.Taking.{create-words}
 use native.Mathlib.Omega.{arith}
-use native.Mathlib.Omega.{arith}
 use borrow.Author.Needs.{needs}
 use Rattle.list_text.proofs.kinds.create.Statement.{statement}
 use Rattle.list_text.proofs.kinds.create.Tie as tie

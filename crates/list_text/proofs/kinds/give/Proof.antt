@@ -2,7 +2,6 @@
 use mathlib.Core.Path.{_∙_}
 use Rattle.list_text.proofs.Taking.{give-words}
 use native.Mathlib.Omega.{arith}
-use native.Mathlib.Omega.{arith}
 use borrow.Author.Needs.{needs}
 use Rattle.list_text.proofs.kinds.give.Statement.{statement}
 use Rattle.list_text.proofs.kinds.give.Tie as tie

@@ -3,14 +3,13 @@ use Prim.Native.Nat.{ℕ}
 use native.Mathlib.Nat.{zero-add}
 use Rattle.list_text.specs.declared.scan.Until.the-variants.{Hash}
 use Rattle.list_text.specs.Scanning.{stops}
-use mathlib.Core.Path.{refl, sym, ap, _∙_}
+use mathlib.Core.Path.{sym, ap, _∙_}
 use mathlib.Core.List.{List}
 use lib.ListN.{take}
 use lib.Seq.{length-take-le}
 use denote.Ref.{now}
 use Rattle.list_text.specs.Reading.{lineOfWords, wordsOf, lineOf}
 use Rattle.list_text.proofs.Scans.{uncommented-is, end-within}
-use native.Mathlib.Omega.{arith}
 use native.Mathlib.Omega.{arith}
 use Rattle.list_text.proofs.kinds.line_of.Statement.{statement}
 use Rattle.list_text.proofs.kinds.line_of.Tie as tie

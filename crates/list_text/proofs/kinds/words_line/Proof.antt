@@ -1,5 +1,5 @@
 -- No word, or the first word names the event.
-use mathlib.Core.Path.{refl, sym, ap, _∙_}
+use mathlib.Core.Path.{sym, ap, _∙_}
 use denote.Ref.{now}
 use Rattle.list_text.specs.Reading.{lineOfWords}
 use Rattle.list_text.proofs.Scans.{no-word, word-there, word-within}

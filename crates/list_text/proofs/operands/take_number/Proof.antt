@@ -4,7 +4,6 @@ use Rattle.list_text.proofs.Scans.{no-word, word-there, word-within}
 use Rattle.list_text.proofs.Taking.{takes-none, takes-no-number, takes-above, takes}
 use mathlib.Core.Path.{sym, _∙_}
 use native.Mathlib.Omega.{arith}
-use native.Mathlib.Omega.{arith}
 use borrow.Author.Needs.{needs}
 use Rattle.list_text.proofs.operands.take_number.Statement.{statement}
 use Rattle.list_text.proofs.operands.take_number.Tie as tie

@@ -1,7 +1,7 @@
 -- Three bytes and then the role's.
 use Rattle.text.proofs.Puts.{_then_, reading}
 use Prim.Native.Nat.{ℕ}
-use mathlib.Core.List.{List, [], _∷_, _++_}
+use mathlib.Core.List.{[], _∷_}
 use mathlib.Core.Path.{ap}
 use borrow.Author.Needs.{needs}
 use Rattle.list_text.proofs.records.put_create.Statement.{statement}

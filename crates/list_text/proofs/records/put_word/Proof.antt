@@ -1,7 +1,7 @@
 -- The high byte and then the low one.
 use Rattle.text.proofs.Puts.{reading}
 use Prim.Native.Nat.{ℕ}
-use mathlib.Core.List.{List, [], _∷_, _++_}
+use mathlib.Core.List.{[], _∷_}
 use mathlib.Core.Path.{ap₂}
 use borrow.Author.Needs.{needs}
 use Rattle.list_text.proofs.records.put_word.Statement.{statement}

@@ -1,7 +1,6 @@
 -- Each kind has as many operands as document 01 says.
 use mathlib.Core.Path.{refl}
 use native.Mathlib.Omega.{arith}
-use native.Mathlib.Omega.{arith}
 use borrow.Author.Needs.{needs}
 use Rattle.list_text.proofs.records.record_length.Statement.{statement}
 use Rattle.list_text.proofs.records.record_length.Tie as tie

@@ -1,14 +1,12 @@
 -- The loop's invariant: from the place reached on the scan ends where it ends from the first place on.
-use Prim.Native.Nat.{_+_, _-_, _<_}
-use mathlib.Core.Path.{_≡_, refl, sym, ap, _∙_}
-use mathlib.Core.Bool.{true, false}
-use lib.ListN.{length, getD, drop}
+use Prim.Native.Nat.{_+_, _-_}
+use mathlib.Core.Path.{_≡_, refl, sym, _∙_}
+use lib.ListN.{length, drop}
 use denote.Ref.{now}
 use Rattle.list_text.specs.Scanning.{stops, endOf}
 use Rattle.list_text.proofs.Scans.{stops-here, goes-on, is-over}
 use native.Mathlib.Omega.{arith}
 use borrow.Author.Needs.{needs}
-use native.Mathlib.Omega.{arith}
 use Rattle.list_text.proofs.scan.scan.Statement.{statement}
 use Rattle.list_text.proofs.scan.scan.Tie as tie
 

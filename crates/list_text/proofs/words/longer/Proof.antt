@@ -1,7 +1,6 @@
 -- The number, or 65,536 where it passes 65,535.
 use borrow.Author.Tests.{le-leb, lt-leb}
 use native.Mathlib.Omega.{arith}
-use native.Mathlib.Omega.{arith}
 use borrow.Author.Needs.{needs}
 use Rattle.list_text.proofs.words.longer.Statement.{statement}
 use Rattle.list_text.proofs.words.longer.Tie as tie

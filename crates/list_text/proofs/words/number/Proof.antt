@@ -1,15 +1,13 @@
 -- The loop's invariant: what was read and what is left make the whole number; past 65,535 more digits change nothing.
 use Prim.Native.Nat.{_+_, _-_, _≤_}
 use mathlib.Core.Path.{_≡_, refl, sym, ap, _∙_}
-use mathlib.Core.Bool.{Bool}
 use lib.ListN.{length, drop}
 use denote.Ref.{now}
 use borrow.Author.Tests.{not-true, not-false}
-use Rattle.list_text.specs.Scanning.{capped, numeral}
+use Rattle.list_text.specs.Scanning.{numeral}
 use Rattle.list_text.proofs.Numerals.{digit-read, no-digit, digits-over, digit-low}
 use native.Mathlib.Omega.{arith}
 use borrow.Author.Needs.{needs}
-use native.Mathlib.Omega.{arith}
 use Rattle.list_text.proofs.words.number.Statement.{statement}
 use Rattle.list_text.proofs.words.number.Tie as tie
 

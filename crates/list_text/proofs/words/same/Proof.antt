@@ -7,7 +7,6 @@ use Rattle.list_text.specs.Reading as words
 use Rattle.list_text.proofs.Numerals.{same-next, same-not, same-over, same-lengths}
 use native.Mathlib.Omega.{arith}
 use borrow.Author.Needs.{needs}
-use native.Mathlib.Omega.{arith}
 use Rattle.list_text.proofs.words.same.Statement.{statement}
 use Rattle.list_text.proofs.words.same.Tie as tie
 
