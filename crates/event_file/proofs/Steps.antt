@@ -1,4 +1,4 @@
--- THE LAW of a step: from an offset of an accepted file on, a step finds the first of the events that are left, and none where none is left.
+-- THE LAW of a step: from an offset of an accepted file on, it finds the first of the events that are left, and none where none is left.
 use Prim.Native.Nat.{ℕ, _≤_, _<_}
 use native.Mathlib.Omega.{arith}
 use mathlib.Core.Path.{_≡_, refl, sym, ap, _∙_}
