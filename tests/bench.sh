@@ -1,15 +1,17 @@
 #!/usr/bin/env bash
-# bench.sh KEY_PROGRAM [RUNS]
+# bench.sh KEY_PROGRAM [RUNS [BEFORE]]
 #
 # The time of KEY_PROGRAM against oracle/straight.rs and oracle/key.rs: same machine, same files, best of RUNS (default 15) runs
 # that take turns. Times are of whole processes, start, reading and printing included; nothing is
 # subtracted. Not part of any timed test. Stops after 20 seconds for each of RUNS.
+# With BEFORE, a key program from before request [2], the time is against that one, on files in which no timeslice is depleted.
 set -euo pipefail
 export LC_ALL=C
-[ $# -ge 1 ] || { echo "bench.sh KEY_PROGRAM [RUNS]" >&2; exit 2; }
+[ $# -ge 1 ] || { echo "bench.sh KEY_PROGRAM [RUNS [BEFORE]]" >&2; exit 2; }
 here=$(dirname "$(readlink -f "${BASH_SOURCE[0]}")")
 program=$(realpath -e "$1")
 runs=${2:-15}
+before=${3:+$(realpath -e "$3")}
 work=$(mktemp -d)
 trap 'rm -rf "$work"' EXIT
 
@@ -18,11 +20,17 @@ for name in key straight make timer; do
 done
 files=()
 for kind in full small chain16 chain64 chain127; do
-    "$work/make" 1 1 "$work/in" $kind
+    kind+=${before:+-undepleted}
+    "$work/make" 1 1 "$work/in" "$kind"
     files+=("$work/in/$kind-00000")
 done
-for opponent in straight key; do
-    echo "against oracle/$opponent.rs"
-    timeout $((20 * runs)) "$work/timer" "$runs" "$program" "$work/$opponent" "${files[@]}"
-done
+against() { # NAME OPPONENT
+    echo "against $1"
+    timeout $((20 * runs)) "$work/timer" "$runs" "$program" "$2" "${files[@]}"
+}
+if [ -n "$before" ]; then
+    against "$before" "$before"
+else
+    for opponent in straight key; do against "oracle/$opponent.rs" "$work/$opponent"; done
+fi
 echo "Whole processes, best of $runs runs, nothing subtracted; ratio = program / opponent."

@@ -4,8 +4,9 @@
 # Makes event files of every kind and compares, byte for byte, the key that KEY_PROGRAM prints with that
 # of oracle/key.rs; and oracle/plain.rs with oracle/key.rs without its last column. COUNT is the number of
 # lively files; the other kinds go with it. The same seed gives the same files. Each run of KEY_PROGRAM has 10 seconds.
+# Every kind of event must have every answer that it can have (oracle/count.rs); with a COUNT below the default that is only said.
 #
-# Exit status: 0 all equal, 1 a difference, 2 wrong use or no time left (COMPARE_SECONDS, default 60).
+# Exit status: 0 all equal, 1 a difference or an answer that never occurs, 2 wrong use or no time left (COMPARE_SECONDS, default 60).
 set -euo pipefail
 export LC_ALL=C
 [ $# -ge 1 ] || { echo "compare.sh KEY_PROGRAM [SEED] [COUNT]" >&2; exit 2; }
@@ -13,14 +14,15 @@ here=$(dirname "$(readlink -f "${BASH_SOURCE[0]}")")
 program=$(realpath -e "$1")
 . "$here/program.sh"
 seed=${2:-20261115}
-count=${3:-900}
+whole=900
+count=${3:-$whole}
 limit=${COMPARE_SECONDS:-60}
 work=$(mktemp -d)
 trap 'rm -rf "$work"' EXIT
 cd "$work"
 mkdir in want plain short got
 
-for name in key plain make; do
+for name in key plain make count; do
     rustc --edition 2021 -O -o "$work/$name.run" "$here/oracle/$name.rs"
 done
 ./make.run "$seed" "$count" in lively
@@ -65,11 +67,14 @@ made=$((count + (count / 5 + 1) + (count / 5 + 30) + 5 + 2))
 [ "$total" -eq "$made" ] || { echo "$total event files are there, not $made"; exit 1; }
 for f in "${names[@]}"; do
     if ! cmp -s "short/$f" "plain/$f"; then
-        echo "the two outside programs disagree: a question about document 01"
+        echo "the two outside programs disagree: a question about the documents"
         differ "$f" "short/$f" "plain/$f" "key.rs without links" "plain.rs"
         exit 1
     fi
 done
+
+# An answer that no file brings about is compared with nothing.
+./count.run in want || [ "$count" -lt $whole ] || exit 1
 
 compared=0
 try() { # NAME, with its file on standard input

@@ -11,6 +11,7 @@
 //! wake THREAD
 //! charge AMOUNT
 //! abort THREAD
+//! refill TIMESLICE
 //! ```
 
 use std::io::{Read, Write};
@@ -35,6 +36,7 @@ fn event(words: &[&str]) -> Option<Vec<u8>> {
             vec![7, high, low]
         }
         ["abort", thread] => vec![8, byte(thread)?],
+        ["refill", timeslice] => vec![9, byte(timeslice)?],
         _ => return None,
     })
 }

@@ -1,4 +1,4 @@
-//! The key program of document 01: the dispatcher with places, changed in place.
+//! The key program of document 01 with request [2]: the dispatcher with places, changed in place.
 //!
 //! `key` reads an event file from standard input and prints its key.
 //! `key -o FOLDER FILE...` writes the key of each file to FOLDER, under the file's own name.
@@ -41,13 +41,14 @@ pub struct Thread {
 
 const FREE: Thread = Thread { role: NONE, hold: Hold::Ready, to: NONE, service: NONE };
 
-/// A place is the name of the set that a timeslice is in: `QUEUE`, `STALLED`, `ON + thread` or
-/// `BEHIND + timeslice`.
-type Place = u16;
-const QUEUE: Place = 0;
-const STALLED: Place = 1;
-const ON: Place = 256;
-const BEHIND: Place = 512;
+/// A place is the name of the set that a timeslice is in: `QUEUE`, `STALLED`, `SPENT`, `ON + thread`
+/// or `BEHIND + timeslice`. Release is never asked for `SPENT`.
+pub type Place = u16;
+pub const QUEUE: Place = 0;
+pub const STALLED: Place = 1;
+pub const SPENT: Place = 2;
+pub const ON: Place = 256;
+pub const BEHIND: Place = 512;
 const PLACES: usize = 768;
 
 /// What is not needed to find the topmost of a set.
@@ -123,6 +124,11 @@ impl Machine {
     /// What is left of the current timeslice, 0 while nothing runs.
     pub fn left(&self) -> u16 {
         if self.running == NONE { 0 } else { self.slice[self.at].left }
+    }
+
+    /// The numbers of the timeslices in one of the places.
+    pub fn placed(&self, places: std::ops::Range<Place>) -> Vec<u8> {
+        (0..self.slices).filter(|i| places.contains(&self.place[*i])).map(|i| self.slice[i].number).collect()
     }
 
     /// "The walk": at most L links, and L links are a loop.
@@ -367,13 +373,11 @@ impl Machine {
         if s.left > 0 {
             return accept(0);
         }
-        s.left = s.quantum;
-        let behind = BEHIND + s.number as Place;
         let n = self.slices;
         self.place[at..n].rotate_left(1);
         self.priority[at..n].rotate_left(1);
         self.slice[at..n].rotate_left(1);
-        self.release(behind);
+        self.leave(n - 1, SPENT);
         accept(self.choose())
     }
 
@@ -401,10 +405,32 @@ impl Machine {
         }
         accept(w.links + self.choose())
     }
+
+    pub fn refill(&mut self, number: u8) -> Answer {
+        if number > 127 {
+            return refuse(2);
+        }
+        if !self.slice_used[number as usize] {
+            return refuse(4);
+        }
+        let at = self.slice[..self.slices].iter().position(|s| s.number == number).unwrap();
+        if self.place[at] != SPENT {
+            return refuse(18);
+        }
+        self.slice[at].left = self.slice[at].quantum;
+        self.place[at] = QUEUE;
+        self.size[SPENT as usize] -= 1;
+        self.size[QUEUE as usize] += 1;
+        if self.running == NONE || self.above(at, self.at) {
+            accept(self.choose())
+        } else {
+            accept(0)
+        }
+    }
 }
 
 /// The length byte of a record, by kind.
-const LENGTH: [u8; 9] = [0, 3, 6, 2, 1, 1, 2, 3, 2];
+const LENGTH: [u8; 10] = [0, 3, 6, 2, 1, 1, 2, 3, 2, 2];
 
 /// Checks a file whole and hands back its records; 14, 15 or 16 where it is refused.
 pub fn check(file: &[u8]) -> Result<&[u8], u8> {
@@ -422,7 +448,7 @@ pub fn check(file: &[u8]) -> Result<&[u8], u8> {
     let mut rest = records;
     while let [length, tail @ ..] = rest {
         match tail {
-            [kind @ 1..=8, ..] if LENGTH[*kind as usize] == *length && *length as usize <= tail.len() => {
+            [kind @ 1..=9, ..] if LENGTH[*kind as usize] == *length && *length as usize <= tail.len() => {
                 if *kind == 1 && tail[2] > 1 {
                     return Err(16);
                 }
@@ -564,6 +590,10 @@ pub fn key(file: &[u8]) -> Vec<u8> {
             }
             [_, 8, thread, tail @ ..] => {
                 answer = m.abort(*thread);
+                rest = tail;
+            }
+            [_, 9, number, tail @ ..] => {
+                answer = m.refill(*number);
                 rest = tail;
             }
             _ => break,

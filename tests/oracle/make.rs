@@ -2,20 +2,22 @@
 //!
 //! Kinds:
 //! - `lively`: random lists that keep threads running, calling, helping, blocking, waking,
-//!   aborting and charging; 3 to 128 threads, many equal priorities, refusals 2 to 13;
+//!   aborting, charging and refilling; 3 to 128 threads, many equal priorities, refusals 2 to 13 and 18;
 //! - `chain`: long chains of donation and helping links, up to 127, and loops;
 //! - `damaged`: files with a fault for the reader (14, 15, 16), and the borders beside them;
 //! - `full`: 128 threads, each with a timeslice, a file of 65,536 bytes;
 //! - `small`: 6 threads, a file of 65,536 bytes;
 //! - `chain16`, `chain64`, `chain127` (any `chainN` up to 127): abort and choice on a chain of N
-//!   links, over and over, a file of 65,536 bytes.
+//!   links, over and over, a file of 65,536 bytes;
+//! - `full-undepleted`, `small-undepleted`, `chainN-undepleted`: the same, but no charge reaches 0 and
+//!   nothing is refilled, for a program from before request [2].
 //!
 //! The machine of `key.rs` runs along, so that the next event can be chosen by what would happen.
 
 #[path = "key.rs"]
 mod key;
 
-use key::{Hold, Machine, CLIENT, LIMIT, NONE, SERVER};
+use key::{Hold, Machine, BEHIND, CLIENT, LIMIT, NONE, ON, QUEUE, SERVER, SPENT, STALLED};
 
 /// splitmix64
 struct Random(u64);
@@ -58,6 +60,7 @@ enum Event {
     Wake(u8),
     Charge(u16),
     Abort(u8),
+    Refill(u8),
 }
 use Event::*;
 
@@ -71,6 +74,7 @@ fn record(e: Event) -> Vec<u8> {
         Wake(t) => vec![2, 6, t],
         Charge(c) => vec![3, 7, (c >> 8) as u8, c as u8],
         Abort(t) => vec![2, 8, t],
+        Refill(s) => vec![2, 9, s],
     }
 }
 
@@ -83,13 +87,15 @@ struct Profile {
     /// Priorities are drawn from these alone, so that ties are common.
     priorities: Vec<u8>,
     quantum: usize,
+    /// Whether charges may reach 0.
+    depletes: bool,
     /// Refused events among a hundred.
     wrong: usize,
     /// Calls among a hundred that go to a server with a higher number than the caller's. Such calls
     /// alone make no loop.
     upward: usize,
-    /// Weights of call, reply, block, wake, charge, abort.
-    weights: [usize; 6],
+    /// Weights of call, reply, block, wake, charge, abort, refill.
+    weights: [usize; 7],
 }
 
 struct List {
@@ -115,6 +121,7 @@ impl List {
             Wake(t) => m.wake(t),
             Charge(c) => m.charge(c),
             Abort(t) => m.abort(t),
+            Refill(s) => m.refill(s),
         };
         self.bytes.extend(record(e));
     }
@@ -154,9 +161,32 @@ impl List {
         Some(Give(slice, thread, priority, quantum))
     }
 
-    fn charge(&mut self) -> Event {
+    fn spent(&self) -> Vec<u8> {
+        self.machine.placed(SPENT..SPENT + 1)
+    }
+
+    fn charge(&mut self) -> Option<Event> {
         let left = self.machine.left();
-        Charge(if self.random.percent(40) { left } else { self.random.range(1, left as usize) as u16 })
+        if !self.profile.depletes {
+            // A little, and never the last unit.
+            let most = left.saturating_sub(1).min(3) as usize;
+            return if most > 0 { Some(Charge(self.random.range(1, most) as u16)) } else { None };
+        }
+        Some(Charge(if self.random.percent(40) { left } else { self.random.range(1, left as usize) as u16 }))
+    }
+
+    fn refill(&mut self) -> Option<Event> {
+        let spent = self.spent();
+        self.random.pick(&spent).map(Refill)
+    }
+
+    /// A timeslice that is not Spent: first the place is drawn, so that none of the four is rare.
+    fn unspent(&mut self) -> Option<u8> {
+        let place = self.random.pick(&[QUEUE, STALLED, ON, BEHIND])?;
+        // ON and BEHIND begin a place for each of 128 numbers.
+        let many = if place < ON { 1 } else { 128 };
+        let there = self.machine.placed(place..place + many);
+        self.random.pick(&there)
     }
 
     /// An event that is accepted now, if the dice find one.
@@ -172,8 +202,13 @@ impl List {
         let running = m.running;
         let blocked = self.threads(|t| t.hold == Hold::Blocked);
         let linked = self.threads(|t| t.hold >= Hold::Calling);
+        let (spent, slices) = (self.spent().len(), m.slices.max(1));
         if running == NONE {
-            // Nothing runs: only wake, abort, or give and perhaps create before it, can change that.
+            // Nothing runs: only wake, abort, refill, or give and perhaps create before it, can change that.
+            // If all are Spent, a wake or an abort is of no use.
+            if self.random.below(slices) < spent && self.random.percent(80) {
+                return self.refill();
+            }
             return match self.random.below(10) {
                 0..=5 if !blocked.is_empty() => self.random.pick(&blocked).map(Wake),
                 0..=8 if !linked.is_empty() => self.random.pick(&linked).map(Abort),
@@ -184,6 +219,8 @@ impl List {
         let mut weights = self.profile.weights;
         // Many blocked threads: more wakes, so that the list does not die down.
         weights[3] += weights[3] * blocked.len() * 6 / self.machine.live as usize;
+        // Many Spent timeslices: more refills.
+        weights[6] += weights[6] * spent * 6 / slices;
         let mut dice = self.random.below(weights.iter().sum());
         let mut what = 0;
         while dice >= weights[what] {
@@ -202,8 +239,9 @@ impl List {
             1 if self.machine.threads[running as usize].role == SERVER => Some(Reply),
             2 => Some(Block),
             3 => self.random.pick(&blocked).map(Wake),
-            4 => Some(self.charge()),
+            4 => self.charge(),
             5 => self.random.pick(&linked).map(Abort),
+            6 => self.refill(),
             _ => None,
         }
     }
@@ -218,22 +256,24 @@ impl List {
         let used: Vec<u8> = (0..128u8).filter(|n| self.machine.slice_used[*n as usize]).collect();
         let owners: Vec<u8> = (0..128u8).filter(|n| self.machine.owns[*n as usize]).collect();
         let priority = self.random.pick(&self.profile.priorities)?;
-        Some(match self.random.below(16) {
-            2 => match self.random.below(6) {
+        Some(match self.random.below(19) {
+            2 => match self.random.below(7) {
                 0 => Create(high, self.role()),
                 1 => Give(high, some, priority, 5),
                 2 => Give(self.free_slice().unwrap_or(any), high, priority, self.random.below(2) as u16),
                 3 => Call(high),
                 4 => Wake(high),
-                _ => Abort(high),
+                5 => Abort(high),
+                _ => Refill(high),
             },
             3 if self.random.percent(50) => Create(some, self.role()),
             3 => Give(self.random.pick(&used)?, self.random.pick(&[some, free, high])?, priority, self.random.below(2) as u16),
-            4 => match self.random.below(4) {
+            4 => match self.random.below(5) {
                 0 => Give(self.free_slice()?, free, priority, self.random.below(2) as u16),
                 1 => Call(free),
                 2 => Wake(free),
-                _ => Abort(free),
+                3 => Abort(free),
+                _ => Refill(self.free_slice()?),
             },
             5 if runs == NONE => match self.random.below(4) {
                 0 => Call(self.random.pick(&[some, free, high])?),
@@ -251,6 +291,8 @@ impl List {
             13 => Give(self.free_slice()?, self.random.pick(&owners)?, priority, self.random.below(3) as u16),
             14 => Wake(any),
             15 => Abort(any),
+            16 => Refill(any),
+            18 => Refill(self.unspent()?),
             _ => Call(any),
         })
     }
@@ -304,9 +346,10 @@ fn lively(seed: u64) -> List {
         slices: r.range(1, threads),
         priorities: priorities(&mut r),
         quantum: r.pick(&[1, 2, 5, 100, 1000, 65_535]).unwrap(),
+        depletes: true,
         wrong: r.pick(&[0, 5, 10, 30]).unwrap(),
         upward: r.pick(&[0, 50, 90, 100]).unwrap(),
-        weights: [r.range(10, 40), r.range(5, 30), r.range(2, 20), r.range(2, 20), r.range(2, 20), r.range(1, 15)],
+        weights: [r.range(10, 40), r.range(5, 30), r.range(2, 20), r.range(2, 20), r.range(2, 20), r.range(1, 15), r.range(2, 20)],
     };
     let steps = match r.below(4) {
         0 => r.range(10, 60),
@@ -347,9 +390,10 @@ fn chain(seed: u64) -> List {
         slices: servers + clients,
         priorities: priorities(&mut r),
         quantum: 4,
+        depletes: true,
         wrong: 3,
         upward: 90,
-        weights: [60, 8, 3, 6, 6, 5],
+        weights: [60, 8, 3, 6, 6, 5, 5],
     };
     let mut list = List::new(seed, profile);
     for t in 0..clients {
@@ -365,6 +409,12 @@ fn chain(seed: u64) -> List {
     }
     let rounds = r.range(3, 10);
     for _ in 0..rounds {
+        // Nobody can call while nothing runs.
+        if list.machine.running == NONE {
+            if let Some(e) = list.refill() {
+                list.add(e)
+            }
+        }
         // Grow: whoever runs calls a server, mostly an idle one.
         let grow = r.range(1, servers);
         for _ in 0..grow {
@@ -379,7 +429,7 @@ fn chain(seed: u64) -> List {
         for _ in 0..r.range(1, 12) {
             let linked = list.threads(|t| t.hold >= Hold::Calling);
             let blocked = list.threads(|t| t.hold == Hold::Blocked);
-            match r.below(9) {
+            match r.below(10) {
                 0 => list.add(Block),
                 1..=2 => {
                     if let Some(t) = r.pick(&blocked) {
@@ -397,11 +447,17 @@ fn chain(seed: u64) -> List {
                     }
                 }
                 6 if list.machine.running != NONE => {
-                    let e = list.charge();
-                    list.add(e)
+                    if let Some(e) = list.charge() {
+                        list.add(e)
+                    }
                 }
                 7 => {
                     if let Some(e) = list.give() {
+                        list.add(e)
+                    }
+                }
+                8 => {
+                    if let Some(e) = list.refill() {
                         list.add(e)
                     }
                 }
@@ -457,7 +513,7 @@ fn damaged(seed: u64, index: usize) -> Vec<u8> {
         12 => f[r.below(4)] ^= 1 << r.below(8),
         13 => f[..4].copy_from_slice(&[255; 4]),
         14 => f[4] = r.pick(&[0, 2, 3, 128, 255]).unwrap(),
-        15 => f[start + 1] = r.pick(&[0, 9, 10, 129, 255]).unwrap(),
+        15 => f[start + 1] = r.pick(&[0, 10, 11, 129, 255]).unwrap(),
         16 => f[start] = f[start].wrapping_add(r.pick(&[1, 255, 128]).unwrap()),
         17 => f[start] = 0,
         18 => {
@@ -474,7 +530,9 @@ fn damaged(seed: u64, index: usize) -> Vec<u8> {
                 f.push(0)
             }
         }
-        20 | 21 | 22 => {
+        // The kind of refill with the operands of another: good where that has one byte.
+        20 => f[start + 1] = 9,
+        21 | 22 => {
             for _ in 0..r.range(1, 4) {
                 let i = r.below(f.len());
                 f[i] ^= 1 << r.below(8);
@@ -482,7 +540,7 @@ fn damaged(seed: u64, index: usize) -> Vec<u8> {
         }
         23 => {
             // A good record begins, but the file ends within it.
-            let e = r.pick(&[Create(1, 1), Give(1, 1, 1, 1), Call(1), Wake(1), Charge(1), Abort(1)]).unwrap();
+            let e = r.pick(&[Create(1, 1), Give(1, 1, 1, 1), Call(1), Wake(1), Charge(1), Abort(1), Refill(1)]).unwrap();
             let whole = record(e);
             f.extend(&whole[..r.range(1, whole.len() - 1)]);
             set_length(&mut f)
@@ -520,7 +578,7 @@ fn damaged(seed: u64, index: usize) -> Vec<u8> {
             let n = r.range(0, 40);
             f.truncate(5);
             for _ in 0..n {
-                f.push(r.below(9) as u8);
+                f.push(r.below(10) as u8);
             }
             set_length(&mut f)
         }
@@ -530,16 +588,17 @@ fn damaged(seed: u64, index: usize) -> Vec<u8> {
 
 /// Calls go upward alone: one loop would soon hold most threads, and the file would measure little
 /// but its walks. `lively` has loops with as many threads.
-fn full(seed: u64) -> List {
+fn full(seed: u64, depletes: bool) -> List {
     let profile = Profile {
         threads: 128,
         servers: 50,
         slices: 128,
         priorities: vec![5, 10, 10, 20, 200],
-        quantum: 50,
+        quantum: if depletes { 50 } else { 65_535 },
+        depletes,
         wrong: 0,
         upward: 100,
-        weights: [30, 22, 4, 8, 12, 3],
+        weights: [30, 22, 4, 8, 12, 3, 6],
     };
     let mut list = List::new(seed, profile);
     for t in 0..128u8 {
@@ -553,16 +612,17 @@ fn full(seed: u64) -> List {
     list
 }
 
-fn small(seed: u64) -> List {
+fn small(seed: u64, depletes: bool) -> List {
     let profile = Profile {
         threads: 6,
         servers: 50,
         slices: 4,
         priorities: vec![10, 10, 20],
-        quantum: 50,
+        quantum: if depletes { 50 } else { 65_535 },
+        depletes,
         wrong: 0,
         upward: 99,
-        weights: [30, 22, 4, 8, 12, 3],
+        weights: [30, 22, 4, 8, 12, 3, 6],
     };
     let mut list = List::new(seed, profile);
     for t in 0..6u8 {
@@ -570,32 +630,33 @@ fn small(seed: u64) -> List {
     }
     for t in 0..4u8 {
         let p = list.random.pick(&list.profile.priorities).unwrap();
-        list.add(Give(t, t, p, 50));
+        list.add(Give(t, t, p, list.profile.quantum as u16));
     }
     list.fill(List::step);
     list
 }
 
 /// Client 0 calls 1, which calls 2, and so on to N. Then, over and over: 0 is aborted (a walk of N
-/// links) and calls 1 again, now as a helper (a choice over N links); or the timeslice is depleted;
-/// or the last server blocks and wakes.
-fn chain_of(seed: u64, links: u8) -> List {
+/// links) and calls 1 again, now as a helper (a choice over N links); or the timeslice is depleted and
+/// refilled (a choice over N links); or the last server blocks and wakes.
+fn chain_of(seed: u64, links: u8, depletes: bool) -> List {
     let profile = Profile {
         threads: links as usize + 1,
         servers: 100,
         slices: 1,
         priorities: vec![10],
-        quantum: 100,
+        quantum: if depletes { 100 } else { 65_535 },
+        depletes,
         wrong: 0,
         upward: 0,
-        weights: [1; 6],
+        weights: [1; 7],
     };
     let mut list = List::new(seed, profile);
     list.add(Create(0, CLIENT));
     for t in 1..=links {
         list.add(Create(t, SERVER));
     }
-    list.add(Give(0, 0, 10, 100));
+    list.add(Give(0, 0, 10, list.profile.quantum as u16));
     for t in 1..=links {
         list.add(Call(t));
     }
@@ -604,13 +665,32 @@ fn chain_of(seed: u64, links: u8) -> List {
             list.add(Abort(0));
             list.add(Call(1));
         }
-        8 => list.add(Charge(100)),
+        8 if depletes => {
+            list.add(Charge(100));
+            list.add(Refill(0));
+        }
+        8 => list.add(Charge(1)),
         _ => {
             list.add(Block);
             list.add(Wake(links));
         }
     });
     list
+}
+
+fn measured(seed: u64, kind: &str) -> Option<List> {
+    let (name, depletes) = match kind.strip_suffix("-undepleted") {
+        Some(name) => (name, false),
+        None => (kind, true),
+    };
+    match name {
+        "full" => Some(full(seed, depletes)),
+        "small" => Some(small(seed, depletes)),
+        _ => match name.strip_prefix("chain")?.parse().ok()? {
+            links @ 1..=127 => Some(chain_of(seed, links, depletes)),
+            _ => None,
+        },
+    }
 }
 
 fn main() -> std::io::Result<()> {
@@ -629,12 +709,7 @@ fn main() -> std::io::Result<()> {
             "lively" => lively(own).file(),
             "chain" => chain(own).file(),
             "damaged" => damaged(own, i),
-            "full" => full(own).file(),
-            "small" => small(own).file(),
-            _ => match kind.strip_prefix("chain").and_then(|n| n.parse::<u8>().ok()) {
-                Some(links @ 1..=127) => chain_of(own, links).file(),
-                _ => panic!("no kind {kind}"),
-            },
+            _ => measured(own, kind).expect("a kind").file(),
         };
         std::fs::write(format!("{}/{kind}-{i:05}", a[3]), file)?;
     }

@@ -1,4 +1,4 @@
-//! The plain machine of document 01. It has no places, no release and no choice: after every
+//! The plain machine of document 01 with request [2]. It has no places, no release and no choice: after every
 //! accepted event it judges all live timeslices afresh. It prints the key without its last column
 //! (links followed), which the plain machine does not define.
 //!
@@ -20,6 +20,7 @@ enum Event {
     Wake { thread: u8 },
     Charge { amount: u16 },
     Abort { thread: u8 },
+    Refill { timeslice: u8 },
 }
 
 /// "Reading a file". The rules for 16 are the same whichever of them is broken first.
@@ -64,6 +65,7 @@ fn read(file: &[u8]) -> Result<Vec<Event>, u8> {
             (6, 2) => Event::Wake { thread: record[1] },
             (7, 3) => Event::Charge { amount: two(1) },
             (8, 2) => Event::Abort { thread: record[1] },
+            (9, 2) => Event::Refill { timeslice: record[1] },
             _ => return Err(16),
         });
         at += 1 + length;
@@ -155,10 +157,13 @@ impl Plain {
         }
     }
 
-    /// The topmost of all live timeslices whose chain's end lets them run.
+    /// The topmost of all live timeslices that have time left and whose chain's end lets them run.
     fn topmost(&self) -> Option<(u8, Chain)> {
         let mut best: Option<(u8, Chain)> = None;
         for &s in &self.turn_order {
+            if self.timeslices[&s].left == 0 {
+                continue;
+            }
             let chain = self.walk(self.timeslices[&s].owner);
             if !self.lets_run(&chain) {
                 continue;
@@ -267,6 +272,18 @@ impl Plain {
                     0
                 }
             }
+            // Spent is a place, and the plain machine has none: "Left is 0 exactly for Spent."
+            Event::Refill { timeslice } => {
+                if timeslice > 127 {
+                    2
+                } else if !self.timeslices.contains_key(&timeslice) {
+                    4
+                } else if self.timeslices[&timeslice].left > 0 {
+                    18
+                } else {
+                    0
+                }
+            }
         }
     }
 
@@ -312,7 +329,6 @@ impl Plain {
                 let t = self.timeslices.get_mut(&current).unwrap();
                 t.left -= amount;
                 if t.left == 0 {
-                    t.left = t.quantum;
                     self.turn_order.retain(|s| *s != current);
                     self.turn_order.push(current);
                 }
@@ -324,6 +340,10 @@ impl Plain {
                 if let Hold::Calling(server) = was {
                     self.threads.get_mut(&server).unwrap().service = Service::Orphan;
                 }
+            }
+            Event::Refill { timeslice } => {
+                let t = self.timeslices.get_mut(&timeslice).unwrap();
+                t.left = t.quantum;
             }
         }
     }

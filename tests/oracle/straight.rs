@@ -1,4 +1,4 @@
-//! A second opponent for `bench.sh`: document 01's machine in its own layout, tables of thread and timeslice
+//! A second opponent for `bench.sh`: document 01's machine, with request [2], in its own layout, tables of thread and timeslice
 //! records by number and the turn order beside them, changed in place. The turn order is scanned once for a
 //! choice and once for each release; nothing is kept to save a scan. `key.rs` is tuned further.
 
@@ -30,6 +30,7 @@ enum Place {
     Behind(u8),
     On(u8),
     Stalled,
+    Spent,
 }
 
 #[derive(Clone, Copy)]
@@ -296,10 +297,9 @@ impl Machine {
         if x.left > 0 {
             return Ok(0);
         }
-        x.left = x.quantum;
         let at = self.order[..self.slices].iter().position(|&u| u == t).unwrap();
         self.order[at..self.slices].rotate_left(1);
-        self.release(Place::Behind(t));
+        self.park(t, Place::Spent);
         Ok(self.choose())
     }
 
@@ -325,6 +325,22 @@ impl Machine {
             self.release(Place::On(w.end));
         }
         Ok(w.links + self.choose())
+    }
+
+    fn refill(&mut self, t: u8) -> Result<usize, u8> {
+        if t > 127 {
+            return Err(2);
+        }
+        let x = &mut self.timeslices[t as usize];
+        if !x.live {
+            return Err(4);
+        }
+        if x.place != Place::Spent {
+            return Err(18);
+        }
+        x.left = x.quantum;
+        x.place = Place::Queue;
+        self.joined(Some(t))
     }
 }
 
@@ -353,7 +369,8 @@ fn key(file: &[u8]) -> Vec<u8> {
             5 => m.block(),
             6 => m.wake(tail[0]),
             7 => m.charge(word(0)),
-            _ => m.abort(tail[0]),
+            8 => m.abort(tail[0]),
+            _ => m.refill(tail[0]),
         };
         rest = &rest[1 + *length as usize..];
         event += 1;

@@ -23,8 +23,8 @@ fn main() {
     let a: Vec<String> = std::env::args().collect();
     let runs: usize = a[1].parse().expect("a number of runs");
     let (program, opponent) = (&a[2], &a[3]);
-    println!("{:<10} {:>7} {:>11} {:>11} {:>7} {:>10} {:>10}", "file", "events", "program", "opponent", "ratio", "program", "opponent");
-    println!("{:<10} {:>7} {:>11} {:>11} {:>7} {:>10} {:>10}", "", "", "ms", "ms", "", "ns/event", "ns/event");
+    println!("{:<19} {:>7} {:>11} {:>11} {:>7} {:>10} {:>10}", "file", "events", "program", "opponent", "ratio", "program", "opponent");
+    println!("{:<19} {:>7} {:>11} {:>11} {:>7} {:>10} {:>10}", "", "", "ms", "ms", "", "ns/event", "ns/event");
     for file in &a[4..] {
         let key = output(opponent, file);
         if output(program, file) != key {
@@ -38,9 +38,9 @@ fn main() {
             o = o.min(run(opponent, file));
         }
         let (p, o) = (p.as_nanos() as f64, o.as_nanos() as f64);
-        let name = file.rsplit('/').next().unwrap().split('-').next().unwrap();
+        let name = file.rsplit('/').next().unwrap().trim_end_matches("-00000");
         println!(
-            "{name:<10} {events:>7} {:>11.3} {:>11.3} {:>7.2} {:>10.0} {:>10.0}",
+            "{name:<19} {events:>7} {:>11.3} {:>11.3} {:>7.2} {:>10.0} {:>10.0}",
             p / 1e6,
             o / 1e6,
             p / o,

@@ -1,4 +1,4 @@
--- Give, charge and abort: the stored machine after their changes shows the state after them, and is stored.
+-- Give, charge, refill and abort: the stored machine after their changes shows the state after them, and is stored.
 use Prim.Native.Nat.{ℕ, _+_, _-_, _<_}
 use mathlib.Core.Path.{_≡_, refl, sym, _∙_, ap, ap₂, subst}
 use mathlib.Core.List.{List, [], _∷_, _++_, map}
@@ -16,14 +16,15 @@ use Rattle.rules.specs.declared.Place.the-variants.{Queue}
 use Rattle.rules.specs.declared.Chain.{Chain}
 use Rattle.rules.specs.declared.Running.the-variants.{Runs}
 use Rattle.rules.specs.declared.Timeslice.{Timeslice}
-use Rattle.rules.specs.State.{Slice, State, sliceAt, holdAt, withThreads, withTimeslices}
+use Rattle.rules.specs.State.{Slice, State, sliceAt, leftAt, holdAt, withThreads, withPlaces, withTimeslices}
 use Rattle.rules.specs.Walk.{walk}
 use Rattle.rules.specs.Threads.{aborted}
 use Rattle.rules.specs.Timeslices.{withLeft, setLeft, given, last, charged, refilled}
 use Rattle.rules.specs.Release.{release}
 use Rattle.rules.specs.Sound.{isBlocked}
 use Rattle.rules.specs.Choice.{Outcome, choose}
-use Rattle.rules.specs.Events.{withGiven, releaseAbort, abortAfter, abort, depletes, spends, chargeBy, charge, overtakes, settleIf, settle}
+use Rattle.rules.specs.Events.{withGiven, releaseAbort, abortAfter, abort, depletes, spends, chargeBy, charge, withRefilled, overtakes}
+use Rattle.rules.specs.Events.{settleIf, settle}
 use Rattle.dispatcher.specs.declared.Machine.{Machine}
 use Rattle.dispatcher.specs.declared.Answered.{Answered}
 use Rattle.tables.specs.Timeslices.{sliceOf, placeOf, freeTimeslice}
@@ -65,27 +66,27 @@ module _ (m : Machine) (j i t n p q : ℕ) (at : j ≡ t) (end : i ≡ m .«live
       stored-of gift (live-is m ok) (omega arith)
       (λ k past fits. getD-set-other (m .order) i k t 0 (λ e. absurd (omega arith)) ∙ free-zero m ok k (omega arith) fits)
 
--- what is left of a timeslice
-module _ (ts : List Timeslice) (k t l : ℕ) (at : k ≡ t) where
-  abbrev pub spent : Timeslice
-  spent = let x = getD ts k freeTimeslice in record {
-    owner = x .owner;
-    priority = x .priority;
-    quantum = x .quantum;
-    left = l;
-    place =
-        x .place;
-  }
+-- so much is left of a timeslice now, at this place
+module _ (ts : List Timeslice) (k t l : ℕ) (p : Place) (at : k ≡ t) where
+  abbrev pub timed : Timeslice
+  timed =
+      let x = getD ts k freeTimeslice in
+      record { owner = x .owner; priority = x .priority; quantum = x .quantum; left = l; place = p }
 
-  pub left-slices : map sliceOf (set ts k spent) ≡ setLeft t l (map sliceOf ts)
+  pub left-slices : map sliceOf (set ts k timed) ≡ setLeft t l (map sliceOf ts)
   unfolding setLeft
   left-slices =
-      map-set sliceOf ts k spent
+      map-set sliceOf ts k timed
       ∙ ap (λ (x : Slice). set (map sliceOf ts) k (withLeft l x)) (sym (slice-at ts k))
       ∙ ap (λ (j : ℕ). set (map sliceOf ts) j (withLeft l (sliceAt (map sliceOf ts) j))) at
 
-  pub left-places : map placeOf (set ts k spent) ≡ map placeOf ts
-  left-places = map-set-same placeOf ts k spent freeTimeslice refl
+  pub left-places : map placeOf (set ts k timed) ≡ set (map placeOf ts) t p
+  left-places = map-set placeOf ts k timed ∙ ap (λ (j : ℕ). set (map placeOf ts) j p) at
+
+-- a place that stays
+pub place-stays : (ts : List Timeslice) (k t l : ℕ) (at : k ≡ t)
+    → map placeOf (set ts k (timed ts k t l (getD ts k freeTimeslice .place) at)) ≡ map placeOf ts
+place-stays ts k t l at = map-set-same placeOf ts k (timed ts k t l (getD ts k freeTimeslice .place) at) freeTimeslice refl
 
 -- a machine with other threads, timeslices and turn order
 abbrev pub movedTo : List Thread → List Timeslice → List ℕ → Machine → Machine
@@ -101,18 +102,18 @@ movedTo ths ts order m =
 
 -- a release, after other threads, timeslices and another turn order
 pub released-shown : (m : Machine) (at : Place → Bool) (ths ths′ : List Thread) (ts free : List Timeslice) (ss : List Slice)
-    (turns : List ℕ) (order : List ℕ)
-    → ths ≡ ths′ → map sliceOf ts ≡ ss → map placeOf ts ≡ map placeOf (m .timeslices) → take (m .«live_timeslices») turns ≡ order
+    (ps : List Place) (turns : List ℕ) (order : List ℕ)
+    → ths ≡ ths′ → map sliceOf ts ≡ ss → map placeOf ts ≡ ps → take (m .«live_timeslices») turns ≡ order
     → Replaced ts (placesAfter at (map sliceOf ts) (take (m .«live_timeslices») turns) (map placeOf ts)) free
     → shown (movedTo ths free turns m)
-    ≡ release at (withTimeslices ss order (withThreads ths′ (shown m)))
-released-shown m at ths ths′ ts free ss turns order e s p o r =
-    let places : map placeOf free ≡ placesAfter at ss order (map placeOf (m .timeslices)) =
+    ≡ release at (withPlaces ps (withTimeslices ss order (withThreads ths′ (shown m))))
+released-shown m at ths ths′ ts free ss ps turns order e s p o r =
+    let places : map placeOf free ≡ placesAfter at ss order ps =
     r .places ∙ ap (λ (x : List Slice). placesAfter at x (take (m .«live_timeslices») turns) (map placeOf ts)) s
     ∙ ap (λ (x : List ℕ). placesAfter at ss x (map placeOf ts)) o ∙ ap (placesAfter at ss order) p in
     let slices : map sliceOf free ≡ ss = r .slices ∙ s in
     (λ k. record { threads = e k; slices = slices k; places = places k; order = o k; running = m .running })
-    ∙ sym (release-is at (withTimeslices ss order (withThreads ths′ (shown m))))
+    ∙ sym (release-is at (withPlaces ps (withTimeslices ss order (withThreads ths′ (shown m)))))
 
 -- the turn order after a move to its back is stored
 pub turned-exact : (m : Machine) (t : ℕ) (back : List ℕ) (ts : List Timeslice) → stored m ≡ true
@@ -137,43 +138,63 @@ aborts m n c k m′ r is e shows ch =
     }) is)
     ch
 
--- the choice after a give
-pub given-to : (t : ℕ) (m : Machine) (s : State) (r : Answered) → shown m ≡ s
+-- the choice after a timeslice joined Queue
+pub joined-to : (t : ℕ) (m : Machine) (s : State) (r : Answered) → shown m ≡ s
     → Settled (settleIf (overtakes (shown m) (some t)) (before m 0)) r
     → Settled (settleIf (overtakes s (some t)) (record { state = s; links = 0 })) r
-given-to t m s r e h = subst (λ (u : State). Settled (settleIf (overtakes u (some t)) (record { state = u; links = 0 })) r) e h
+joined-to t m s r e h = subst (λ (u : State). Settled (settleIf (overtakes u (some t)) (record { state = u; links = 0 })) r) e h
 
 -- what is left and the quantum, read at the timeslice's index
-pub left-at : (ts : List Timeslice) (k t : ℕ) → k ≡ t → sliceAt (map sliceOf ts) t .left ≡ getD ts k freeTimeslice .left
+pub left-at : (ts : List Timeslice) (k t : ℕ) → k ≡ t → leftAt (map sliceOf ts) t ≡ getD ts k freeTimeslice .left
 left-at ts k t at = ap (λ (x : Slice). x .left) (slice-at ts t) ∙ sym (ap (λ (j : ℕ). getD ts j freeTimeslice .left) at)
 
 quantum-at : (ts : List Timeslice) (k t : ℕ) → k ≡ t → sliceAt (map sliceOf ts) t .quantum ≡ getD ts k freeTimeslice .quantum
 quantum-at ts k t at = ap (λ (x : Slice). x .quantum) (slice-at ts t) ∙ sym (ap (λ (j : ℕ). getD ts j freeTimeslice .quantum) at)
 
-pub refills : (ts : List Timeslice) (k t : ℕ) (at : k ≡ t)
-    → map sliceOf (set ts k (spent ts k t (getD ts k freeTimeslice .quantum) at)) ≡ refilled t (map sliceOf ts)
+refills : (ts : List Timeslice) (k t : ℕ) (p : Place) (at : k ≡ t)
+    → map sliceOf (set ts k (timed ts k t (getD ts k freeTimeslice .quantum) p at)) ≡ refilled t (map sliceOf ts)
 unfolding refilled
-refills ts k t at = left-slices ts k t (getD ts k freeTimeslice .quantum) at
+refills ts k t p at = left-slices ts k t (getD ts k freeTimeslice .quantum) p at
     ∙ ap (λ (l : ℕ). setLeft t l (map sliceOf ts)) (sym (quantum-at ts k t at))
 
-pub charges : (ts : List Timeslice) (k t units : ℕ) (at : k ≡ t)
-    → map sliceOf (set ts k (spent ts k t (getD ts k freeTimeslice .left - units) at)) ≡ charged t units (map sliceOf ts)
+pub charges : (ts : List Timeslice) (k t units : ℕ) (p : Place) (at : k ≡ t)
+    → map sliceOf (set ts k (timed ts k t (getD ts k freeTimeslice .left - units) p at)) ≡ charged t units (map sliceOf ts)
 unfolding charged
-charges ts k t units at =
-    left-slices ts k t (getD ts k freeTimeslice .left - units) at
+charges ts k t units p at =
+    left-slices ts k t (getD ts k freeTimeslice .left - units) p at
     ∙ ap (λ (l : ℕ). setLeft t (l - units) (map sliceOf ts)) (sym (left-at ts k t at))
 
 -- a charge, by what is left
 module _ (m : Machine) (n t count units k : ℕ) (run : m .running ≡ Runs n t count) (at : k ≡ t) where
-  pub charge-spent : getD (m .timeslices) k freeTimeslice .left ≡ units → depletes t (shown m) ≡ charge units (shown m)
+  pub charge-spent : getD (m .timeslices) k freeTimeslice .left ≡ units → depletes t units (shown m) ≡ charge units (shown m)
   unfolding charge
   charge-spent e =
-      let same : eqb (sliceAt (map sliceOf (m .timeslices)) t .left) units ≡ true = eq-eqb _ _ (left-at (m .timeslices) k t at ∙ e) in
-      sym (ap (chargeBy units (shown m)) run ∙ ap (λ (b : Bool). cond b (depletes t (shown m)) (spends t units (shown m))) same)
+      let same : eqb (leftAt (map sliceOf (m .timeslices)) t) units ≡ true = eq-eqb _ _ (left-at (m .timeslices) k t at ∙ e) in
+      sym (ap (chargeBy units (shown m)) run ∙ ap (λ (b : Bool). cond b (depletes t units (shown m)) (spends t units (shown m))) same)
 
   pub charge-left : (getD (m .timeslices) k freeTimeslice .left ≡ units → ⊥) → spends t units (shown m) ≡ charge units (shown m)
   unfolding charge
   charge-left e =
-      let other : eqb (sliceAt (map sliceOf (m .timeslices)) t .left) units ≡ false =
+      let other : eqb (leftAt (map sliceOf (m .timeslices)) t) units ≡ false =
       ne-eqb _ _ (λ q. e (sym (left-at (m .timeslices) k t at) ∙ q)) in
-      sym (ap (chargeBy units (shown m)) run ∙ ap (λ (b : Bool). cond b (depletes t (shown m)) (spends t units (shown m))) other)
+      sym (ap (chargeBy units (shown m)) run ∙ ap (λ (b : Bool). cond b (depletes t units (shown m)) (spends t units (shown m))) other)
+
+-- a refill: the whole quantum is left, in Queue
+module _ (m : Machine) (k t : ℕ) (at : k ≡ t) where
+  abbrev pub refilledTo : Machine
+  refilledTo =
+      let x = getD (m .timeslices) k freeTimeslice in
+      movedTo (m .threads) (set (m .timeslices) k (timed (m .timeslices) k t (x .quantum) Queue at)) (m .order) m
+
+  pub refill-shown : shown refilledTo ≡ withRefilled t (shown m)
+  unfolding withRefilled
+  refill-shown =
+      let slices = refills (m .timeslices) k t Queue at in
+      let places = left-places (m .timeslices) k t (getD (m .timeslices) k freeTimeslice .quantum) Queue at in
+      λ i. record {
+        threads = m .threads;
+        slices = slices i;
+        places = places i;
+        order = take (m .«live_timeslices») (m .order);
+        running = m .running;
+      }

@@ -14,6 +14,7 @@ mod call;
 mod charge;
 mod create;
 mod give;
+mod refill;
 mod reply;
 mod wake;
 
@@ -38,6 +39,7 @@ impl Machine {
             Event::Wake { thread } => self.dispatch_wake(thread),
             Event::Charge { units } => self.dispatch_charge(units),
             Event::Abort { thread } => self.dispatch_abort(thread),
+            Event::Refill { timeslice } => self.dispatch_refill(timeslice),
         }
     }
 }

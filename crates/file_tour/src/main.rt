@@ -31,7 +31,8 @@ fn listed(place: u8) -> Event {
         5 => Event::Block,
         6 => Event::Wake { thread: 127 },
         7 => Event::Charge { units: 65535 },
-        _ => Event::Abort { thread: 2 },
+        8 => Event::Abort { thread: 2 },
+        _ => Event::Refill { timeslice: 5 },
     }
 }
 
@@ -58,7 +59,7 @@ fn append_listed(buffer: &mut [u8], filled: usize, place: u8) -> usize {
 // Starts a file and appends the list; the bytes filled.
 fn write(buffer: &mut [u8]) -> usize {
     let mut filled = start_file(b"start: ", buffer);
-    for place in 0..9 {
+    for place in 0..10 {
         filled = append_listed(buffer, filled, place);
     }
     filled
@@ -108,7 +109,7 @@ fn open_damaged() {
     open_file(b"wrong length field: ", b"\x00\x00\x00\x04\x01\x01\x04");
     open_file(b"length field 0: ", b"\x00\x00\x00\x00");
     open_file(b"version 2: ", b"\x00\x00\x00\x03\x02\x01\x04");
-    open_file(b"unknown kind: ", b"\x00\x00\x00\x03\x01\x01\x09");
+    open_file(b"unknown kind: ", b"\x00\x00\x00\x03\x01\x01\xff");
     open_file(
         b"wrong record length: ",
         b"\x00\x00\x00\x04\x01\x02\x04\x00",

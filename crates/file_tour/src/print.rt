@@ -45,6 +45,7 @@ pub(crate) fn event(event: Event) {
         Event::Wake { thread } => number(b"wake thread ", thread as usize),
         Event::Charge { units } => number(b"charge ", units as usize),
         Event::Abort { thread } => number(b"abort thread ", thread as usize),
+        Event::Refill { timeslice } => number(b"refill timeslice ", timeslice as usize),
     }
 }
 

@@ -9,7 +9,7 @@ use borrow.Author.Tests.{ltb-true, ltb-false, ne-eqb}
 use Rattle.rules.specs.declared.Role.{Role}
 use Rattle.rules.specs.declared.Role.the-variants.{Client, Server}
 use Rattle.rules.specs.declared.Event.{Event}
-use Rattle.rules.specs.declared.Event.the-variants.{Create, Give, Call, Reply, Block, Wake, Charge, Abort}
+use Rattle.rules.specs.declared.Event.the-variants.{Create, Give, Call, Reply, Block, Wake, Charge, Abort, Refill}
 use Rattle.rules.specs.Tests.{all}
 use Rattle.rules.specs.Key.{bytes, digit, decimal}
 use Rattle.rules.proofs.Basics.Views.{Two, yes-true, no-false, two, and-true-both}
@@ -87,6 +87,7 @@ words-plain Block = cons _ _ refl none
 words-plain (Wake n) = cons _ _ refl (cons _ _ (decimal-plain n) none)
 words-plain (Charge units) = cons _ _ refl (cons _ _ (decimal-plain units) none)
 words-plain (Abort n) = cons _ _ refl (cons _ _ (decimal-plain n) none)
+words-plain (Refill t) = cons _ _ refl (cons _ _ (decimal-plain t) none)
 
 -- the parts of a line of words between its spaces
 spaces : (w : List ℕ) (ws : List (List ℕ)) → AllWords (w ∷ ws) → parts space (joined 32 (w ∷ ws)) ≡ w ∷ ws
@@ -110,6 +111,7 @@ first-word Block = some-part _ _ refl
 first-word (Wake n) = some-part _ _ refl
 first-word (Charge units) = some-part _ _ refl
 first-word (Abort n) = some-part _ _ refl
+first-word (Refill t) = some-part _ _ refl
 
 pub event-plain : (e : Event) → plainLine (eventWords e) ≡ true
 event-plain e = rw (words-joined e) (line-plain (wordList e) (first-word e) (event-words e) (words-plain e))

@@ -9,7 +9,7 @@ use borrow.Author.Tests.{le-leb, leb-true, ne-eqb}
 use Rattle.rules.specs.declared.Role.{Role}
 use Rattle.rules.specs.declared.Role.the-variants.{Client, Server}
 use Rattle.rules.specs.declared.Event.{Event}
-use Rattle.rules.specs.declared.Event.the-variants.{Create, Give, Call, Reply, Block, Wake, Charge, Abort}
+use Rattle.rules.specs.declared.Event.the-variants.{Create, Give, Call, Reply, Block, Wake, Charge, Abort, Refill}
 use Rattle.rules.specs.Tests.{all}
 use Rattle.rules.specs.Key.{bytes, decimal}
 use Rattle.rules.proofs.Basics.Views.{Two, yes-true, no-false, two, Either, first, second, or-true-cases, and-true-left, and-true-right}
@@ -36,6 +36,7 @@ wordList Block = bytes "block" ∷ []
 wordList (Wake n) = bytes "wake" ∷ decimal n ∷ []
 wordList (Charge units) = bytes "charge" ∷ decimal units ∷ []
 wordList (Abort n) = bytes "abort" ∷ decimal n ∷ []
+wordList (Refill t) = bytes "refill" ∷ decimal t ∷ []
 
 pub words-joined : (e : Event) → eventWords e ≡ joined 32 (wordList e)
 unfolding eventWords joined bytes
@@ -47,6 +48,7 @@ words-joined Block = refl
 words-joined (Wake n) = refl
 words-joined (Charge units) = refl
 words-joined (Abort n) = refl
+words-joined (Refill t) = refl
 
 -- a word of letters and digits, and the bytes of a line of them
 pub record Word (word : List ℕ) : Type 0 where
@@ -148,6 +150,7 @@ event-words Block = (record { some = refl; plain = refl }, tt)
 event-words (Wake n) = (record { some = refl; plain = refl }, (decimal-word n, tt))
 event-words (Charge units) = (record { some = refl; plain = refl }, (decimal-word units, tt))
 event-words (Abort n) = (record { some = refl; plain = refl }, (decimal-word n, tt))
+event-words (Refill t) = (record { some = refl; plain = refl }, (decimal-word t, tt))
 
 -- a decimal is read as its number
 number-back : (most above n : ℕ) (rest : List (List ℕ)) (next : ℕ → List (List ℕ) → Line) → n ≤ most
@@ -180,3 +183,4 @@ event-back Block h = refl
 event-back (Wake n) h = number-back 255 4 n [] (λ n. words.last (Wake n)) (omega arith)
 event-back (Charge units) h = number-back 65535 5 units [] (λ units. words.last (Charge units)) (omega arith)
 event-back (Abort n) h = number-back 255 4 n [] (λ n. words.last (Abort n)) (omega arith)
+event-back (Refill t) h = number-back 255 4 t [] (λ t. words.last (Refill t)) (omega arith)

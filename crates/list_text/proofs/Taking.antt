@@ -117,6 +117,11 @@ takes-last {line} {at} {most} {above} {fault} {value} {to} {over} {whole} first 
           ∙ sym (in-turn whole fault over (One (make value)) _ e (end .is (make value)));
     }
 
+-- one byte and nothing else
+pub byte-words : {line : List ℕ} {at fault value n : ℕ} (make : ℕ → Event) → TakesLast line at 255 4 fault value → n ≡ value
+    → orWrong fault (One (make n)) ≡ number 255 4 (wordsOf (drop at line)) (λ n. last (make n))
+byte-words make taken same = rw same (sym (taken .is make))
+
 pub create-words : {line : List ℕ} {at fault value to fault′ to′ over rest whole n : ℕ} {r : Role}
     → TakesNumber line at 255 4 fault value to → TakesRole line to fault′ r to′ → TakesNothing line to′ over
     → rest ≡ firstFault fault′ over → whole ≡ firstFault fault rest → n ≡ value

@@ -4,7 +4,7 @@ use mathlib.Core.List.{List, [], _∷_, _++_}
 use Rattle.rules.specs.declared.Role.{Role}
 use Rattle.rules.specs.declared.Role.the-variants.{Client, Server}
 use Rattle.rules.specs.declared.Event.{Event}
-use Rattle.rules.specs.declared.Event.the-variants.{Create, Give, Call, Reply, Block, Wake, Charge, Abort}
+use Rattle.rules.specs.declared.Event.the-variants.{Create, Give, Call, Reply, Block, Wake, Charge, Abort, Refill}
 use Rattle.rules.specs.EventFile.{fileRefusal, eventsOf}
 use Rattle.rules.specs.Key.{bytes, decimal, fileLine}
 
@@ -23,6 +23,7 @@ eventWords Block = bytes "block"
 eventWords (Wake n) = bytes "wake " ++ decimal n
 eventWords (Charge units) = bytes "charge " ++ decimal units
 eventWords (Abort n) = bytes "abort " ++ decimal n
+eventWords (Refill t) = bytes "refill " ++ decimal t
 
 unfoldable pub textOf : List Event → List ℕ
 textOf [] = []

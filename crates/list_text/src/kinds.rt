@@ -113,6 +113,14 @@ fn abort(line: &[u8], at: usize) -> Line
     answer(last.fault, Event::Abort { thread })
 }
 
+fn refill(line: &[u8], at: usize) -> Line
+    ensures { λ r. ⌜ r ≡ reading.refill (wordsOf (drop at (now (line .entry)))) ⌝ }
+{
+    let last = take_last(line, at, 255, 4);
+    let timeslice = narrow(last.value);
+    answer(last.fault, Event::Refill { timeslice })
+}
+
 // An event without operands.
 fn alone(line: &[u8], at: usize, event: Event) -> Line
     ensures { λ r. ⌜ r ≡ last event (wordsOf (drop at (now (line .entry)))) ⌝ }
@@ -148,6 +156,9 @@ fn named(word: &[u8], line: &[u8], at: usize) -> Line
     }
     if same(word, b"abort") {
         return abort(line, at);
+    }
+    if same(word, b"refill") {
+        return refill(line, at);
     }
     Line::Wrong(1)
 }

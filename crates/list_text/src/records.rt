@@ -30,6 +30,7 @@ pub fn record_length(event: Event) -> usize
         Event::Wake { thread: _ } => 3,
         Event::Charge { units: _ } => 4,
         Event::Abort { thread: _ } => 3,
+        Event::Refill { timeslice: _ } => 3,
     }
 }
 
@@ -125,6 +126,7 @@ fn put_record(out: &mut [u8], at: usize, event: Event) -> usize
         Event::Wake { thread } => put_three(out, at, 2, 6, thread),
         Event::Charge { units } => put_charge(out, at, units),
         Event::Abort { thread } => put_three(out, at, 2, 8, thread),
+        Event::Refill { timeslice } => put_three(out, at, 2, 9, timeslice),
     }
 }
 

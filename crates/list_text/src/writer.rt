@@ -72,6 +72,7 @@ fn put_event(out: &mut [u8], at: usize, event: Event) -> usize
         Event::Wake { thread } => put_named(out, at, b"wake ", thread as u64),
         Event::Charge { units } => put_named(out, at, b"charge ", units as u64),
         Event::Abort { thread } => put_named(out, at, b"abort ", thread as u64),
+        Event::Refill { timeslice } => put_named(out, at, b"refill ", timeslice as u64),
     }
 }
 

@@ -14,7 +14,7 @@ use Rattle.rules.specs.declared.Chain.{Chain}
 use Rattle.rules.specs.declared.Running.{Running}
 use Rattle.rules.specs.declared.Running.the-variants.{Nothing, Runs}
 use Rattle.rules.specs.declared.Event.{Event}
-use Rattle.rules.specs.declared.Event.the-variants.{Create, Give, Call, Reply, Block, Wake, Charge, Abort}
+use Rattle.rules.specs.declared.Event.the-variants.{Create, Give, Call, Reply, Block, Wake, Charge, Abort, Refill}
 use Rattle.rules.specs.Tests.{member, distinct}
 use Rattle.rules.specs.State.{State, Plain, forget, limit, freeThread, ownerAt, liveAt, oneMoreIf, liveThreads}
 use Rattle.rules.specs.Walk.{Link, noLinks}
@@ -38,10 +38,10 @@ pub most : {bound rest : ℕ} (b : Bool) (k : ℕ) → T (leb k bound) → rest 
 most {bound} true k h g = leb→le k bound h
 most {bound} false k h g = g
 
--- every refusal number is at most 13
+-- every refusal number is at most 18
 ruleset refusal-numbers = (most, lit≤)
 
-pub refusal-most : (e : Event) (p : Plain) → refusal e p ≤ 13
+pub refusal-most : (e : Event) (p : Plain) → refusal e p ≤ 18
 refusal-most (Create n r) p = search refusal-numbers depth 7
 refusal-most (Give t n priority quantum) p = search refusal-numbers depth 7
 refusal-most (Call server) p = search refusal-numbers depth 7
@@ -50,16 +50,17 @@ refusal-most Block p = search refusal-numbers depth 7
 refusal-most (Wake n) p = search refusal-numbers depth 7
 refusal-most (Charge units) p = search refusal-numbers depth 7
 refusal-most (Abort n) p = search refusal-numbers depth 7
+refusal-most (Refill t) p = search refusal-numbers depth 7
 
-after-most : (k : ℕ) (e : Event) (s : State) → k ≤ 13 → dispatchAfter k e s .refusal ≤ 13
+after-most : (k : ℕ) (e : Event) (s : State) → k ≤ 18 → dispatchAfter k e s .refusal ≤ 18
 after-most zero e s h = h
 after-most (suc k) e s h = h
 
-pub offer-most : (e : Event) (s : State) → offer e s .refusal ≤ 13
+pub offer-most : (e : Event) (s : State) → offer e s .refusal ≤ 18
 unfolding offer dispatch
 offer-most e s = by (sound s)
   where
-    by : (b : Bool) → offerIf b e s .refusal ≤ 13
+    by : (b : Bool) → offerIf b e s .refusal ≤ 18
     by true = after-most (refusal e (forget s)) e s (refusal-most e (forget s))
     by false = omega arith
 

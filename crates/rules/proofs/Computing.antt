@@ -9,7 +9,7 @@ use Rattle.rules.specs.Release.{releasedPlaces, release}
 use Rattle.rules.specs.Choice.{park, retry, chooseFrom, choose}
 use Rattle.rules.specs.Sound.{shaped, placed, settled, sound}
 use Rattle.rules.specs.Events.{releases, create, withGiven, give, callDonates, callHelps, call, reply, block, wake, depletes}
-use Rattle.rules.specs.Events.{spends, charge, abortAfter, abort, dispatch, offer}
+use Rattle.rules.specs.Events.{spends, charge, abortAfter, abort, withRefilled, refill, dispatch, offer}
 use Rattle.rules.specs.Plain.{judgeFrom, judge, plainOffer}
 use Rattle.rules.specs.Lists.{run, after, plainRun}
 use Rattle.rules.specs.EventFile.{recordsOf, fileOf, recordAt, eventsAfter, fileRefusal, eventsOf, opened, stepped, started, allFit}
@@ -21,7 +21,8 @@ unfoldable pub computing : Unit {0}
 unfolding member distinct all someOf below liveThreads earlier standsAbove topmost walkFrom walk setHold setService created donate replied
     aborted setLeft given last without toBack charged refilled releasedPlaces release park retry chooseFrom choose shaped placed settled
     sound
-    releases create withGiven give callDonates callHelps call reply block wake depletes spends charge abortAfter abort dispatch offer
+    releases create withGiven give callDonates callHelps call reply block wake depletes spends charge abortAfter abort withRefilled refill
+    dispatch offer
     judgeFrom judge plainOffer run after plainRun allFit recordsOf fileOf recordAt eventsAfter fileRefusal eventsOf opened stepped started
     appendRefusal appended eventsIn appendedAll bytes digits decimal columns line lines fileLine key shortLines shortKey plainLines plainKey
 computing = tt

@@ -1,6 +1,7 @@
 -- What each event hands to the choice.
 pub mod Hands
 pub mod Joining
+pub mod Lefts
 pub mod CreateEvent
 pub mod GiveEvent
 pub mod CallEvent
@@ -9,3 +10,4 @@ pub mod BlockEvent
 pub mod WakeEvent
 pub mod ChargeEvent
 pub mod AbortEvent
+pub mod RefillEvent

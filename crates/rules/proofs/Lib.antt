@@ -1,5 +1,5 @@
 -- What is proved about the definitions of specs/. Demands.antt has the theorems about the machines, Files/Inverse.antt those about event
--- files; MarkedSequences.antt has K1 to K11.
+-- files; MarkedSequences.antt has K1 to K11, Depletion.antt what a Spent timeslice is.
 pub mod Computing
 pub mod MarkedSequences
 pub mod Basics
@@ -13,3 +13,4 @@ pub mod Events
 pub mod Agreement
 pub mod Bounds
 pub mod Demands
+pub mod Depletion

@@ -1,4 +1,5 @@
--- Document 01, "Marked sequences": K1 to K11 and a row of our own as one table, and one statement that every row meets.
+-- Document 01, "Marked sequences", with K9 as document 02, [2], reads: K1 to K11 and rows of our own as one table, and one statement that
+-- every row meets.
 -- Proved by computation: antt runs the definitions on each row.
 use Prim.Native.Nat.{ℕ}
 use Prim.Native.String.{String}
@@ -7,9 +8,9 @@ use mathlib.Core.List.{List, [], _∷_, _++_}
 use mathlib.Core.Bool.{Bool, true}
 use Rattle.rules.specs.declared.Role.the-variants.{Client, Server}
 use Rattle.rules.specs.declared.Place.{Place}
-use Rattle.rules.specs.declared.Place.the-variants.{Queue, Behind, On, Stalled}
+use Rattle.rules.specs.declared.Place.the-variants.{Queue, Behind, On, Stalled, Spent}
 use Rattle.rules.specs.declared.Event.{Event}
-use Rattle.rules.specs.declared.Event.the-variants.{Create, Give, Call, Reply, Block, Wake, Charge, Abort}
+use Rattle.rules.specs.declared.Event.the-variants.{Create, Give, Call, Reply, Block, Wake, Charge, Abort, Refill}
 use Rattle.rules.specs.State.{State, empty, placeAt}
 use Rattle.rules.specs.Sound.{sound}
 use Rattle.rules.specs.Lists.{after}
@@ -191,7 +192,7 @@ K9 =
           ("1 ok 0 - - 0" with-links "0" ∷ "2 ok 0 - - 0" with-links "0" ∷ "3 ok 0 0 0 0" with-links "0"
           ∷ "4 ok 0 0 0 0" with-links "0" ∷ "5 no 11 0 0 0" with-links "0"
           ∷ "6 ok 0 1 1 0" with-links "0" ∷ []);
-      places = at 0 Queue ∷ at 1 Queue ∷ [];
+      places = at 0 Spent ∷ at 1 Queue ∷ [];
     }
 
 unfoldable pub K10 : Row
@@ -218,10 +219,46 @@ ownTimeslice =
       places = at 0 Queue ∷ at 1 Queue ∷ [];
     }
 
+-- Refill, document 02, [2]: refused with 2, 4 and 18; where nothing runs it starts the machine; the turn order stays, so that timeslice 1,
+-- depleted last, stands below timeslice 0.
+unfoldable pub refilledInTurn : Row
+refilledInTurn =
+    record {
+      file =
+          fileOf
+          (Create 0 Client ∷ Create 1 Client ∷ Give 0 0 10 5 ∷ Give 1 1 10 5 ∷ Charge 5 ∷ Refill 128 ∷ Refill 2 ∷ Refill 1 ∷ Charge 5
+          ∷ Refill 1 ∷ Refill 0 ∷ []);
+      prints =
+          lines
+          ("1 ok 0 - - 0" with-links "0" ∷ "2 ok 0 - - 0" with-links "0" ∷ "3 ok 0 0 0 0" with-links "0"
+          ∷ "4 ok 0 0 0 0" with-links "0" ∷ "5 ok 0 1 1 0" with-links "0" ∷ "6 no 2 1 1 0" with-links "0"
+          ∷ "7 no 4 1 1 0" with-links "0" ∷ "8 no 18 1 1 0" with-links "0" ∷ "9 ok 0 - - 0" with-links "0"
+          ∷ "10 ok 0 1 1 0" with-links "0" ∷ "11 ok 0 0 0 0" with-links "0" ∷ []);
+      places = at 0 Queue ∷ at 1 Queue ∷ [];
+    }
+
+-- A depleted leader: timeslice 2 pays for server 1, which serves client 0, with 0 and 3 Behind it. Depleted, it is Spent; of its followers
+-- 3 stands above and goes to Queue, 0 goes Behind that one, and the server is finished on a helper's time.
+unfoldable pub spentLeader : Row
+spentLeader =
+    record {
+      file =
+          fileOf
+          (Create 0 Client ∷ Create 1 Server ∷ Create 2 Client ∷ Create 3 Client ∷ Give 0 0 10 9 ∷ Call 1 ∷ Block ∷ Give 2 2 20 9 ∷ Call 1
+          ∷ Give 3 3 15 9 ∷ Call 1 ∷ Wake 1 ∷ Charge 9 ∷ []);
+      prints =
+          lines
+          ("1 ok 0 - - 0" with-links "0" ∷ "2 ok 0 - - 0" with-links "0" ∷ "3 ok 0 - - 0" with-links "0" ∷ "4 ok 0 - - 0" with-links "0"
+          ∷ "5 ok 0 0 0 0" with-links "0" ∷ "6 ok 0 1 0 1" with-links "0" ∷ "7 ok 0 - - 0" with-links "1"
+          ∷ "8 ok 0 2 2 0" with-links "0" ∷ "9 ok 0 - - 0" with-links "1" ∷ "10 ok 0 3 3 0" with-links "0"
+          ∷ "11 ok 0 - - 0" with-links "1" ∷ "12 ok 0 1 2 0" with-links "1" ∷ "13 ok 0 1 3 0" with-links "1" ∷ []);
+      places = at 0 (Behind 3) ∷ at 2 Spent ∷ at 3 Queue ∷ [];
+    }
+
 unfoldable pub rows : List Row
-rows = K1 ∷ K2 ∷ K3 ∷ K4 ∷ K5 ∷ K6 ∷ K7 ∷ K8 ∷ K9 ∷ K10 ∷ K11 ∷ ownTimeslice ∷ []
+rows = K1 ∷ K2 ∷ K3 ∷ K4 ∷ K5 ∷ K6 ∷ K7 ∷ K8 ∷ K9 ∷ K10 ∷ K11 ∷ ownTimeslice ∷ refilledInTurn ∷ spentLeader ∷ []
 
 pub marked : All Meets rows
 unfolding computing linesText plainLinesText text plainText stands placesOf machineAfter result expected K1 two twoPrints K2 K3 four
-    fourPrints K4 K5 K6 seven sevenPrints K7 K8 K9 K10 K11 ownTimeslice rows
-marked = (refl, (refl, (refl, (refl, (refl, (refl, (refl, (refl, (refl, (refl, (refl, (refl, tt))))))))))))
+    fourPrints K4 K5 K6 seven sevenPrints K7 K8 K9 K10 K11 ownTimeslice refilledInTurn spentLeader rows
+marked = (refl, (refl, (refl, (refl, (refl, (refl, (refl, (refl, (refl, (refl, (refl, (refl, (refl, (refl, tt))))))))))))))

@@ -9,7 +9,7 @@ use lib.Dec.{leb, ltb, eqb}
 use Rattle.rules.specs.declared.Role.{Role}
 use Rattle.rules.specs.declared.Role.the-variants.{Client, Server}
 use Rattle.rules.specs.declared.Event.{Event}
-use Rattle.rules.specs.declared.Event.the-variants.{Create, Give, Call, Reply, Block, Wake, Charge, Abort}
+use Rattle.rules.specs.declared.Event.the-variants.{Create, Give, Call, Reply, Block, Wake, Charge, Abort, Refill}
 use Rattle.rules.specs.Tests.{all}
 use Rattle.rules.specs.Refusals.{_gives_else_}
 
@@ -32,7 +32,7 @@ abbrev pub roleByte : Role → ℕ
 roleByte Client = 0
 roleByte Server = 1
 
--- "Kinds: 1 create; 2 give; 3 call; 4 reply; 5 block; 6 wake; 7 charge; 8 abort"
+-- "Kinds: 1 create; 2 give; 3 call; 4 reply; 5 block; 6 wake; 7 charge; 8 abort"; document 02, [2]: "Kind 9, refill"
 abbrev pub kindOf : Event → ℕ
 kindOf (Create n r) = 1
 kindOf (Give t n priority quantum) = 2
@@ -42,9 +42,10 @@ kindOf Block = 5
 kindOf (Wake n) = 6
 kindOf (Charge units) = 7
 kindOf (Abort n) = 8
+kindOf (Refill t) = 9
 
 -- "create (thread, role ..); give (timeslice, thread, priority, quantum in 2 bytes); call (server); wake (thread); charge (2 bytes);
--- abort (thread)"
+-- abort (thread)"; "refill (timeslice)"
 abbrev pub operandsOf : Event → List ℕ
 operandsOf (Create n r) = n ∷ roleByte r ∷ []
 operandsOf (Give t n priority quantum) = t ∷ n ∷ priority ∷ highByte quantum ∷ lowByte quantum ∷ []
@@ -54,6 +55,7 @@ operandsOf Block = []
 operandsOf (Wake n) = n ∷ []
 operandsOf (Charge units) = highByte units ∷ lowByte units ∷ []
 operandsOf (Abort n) = n ∷ []
+operandsOf (Refill t) = t ∷ []
 
 -- "A record: one length byte counting what follows it, a kind byte, operands."
 abbrev pub recordOf : Event → List ℕ
@@ -126,7 +128,8 @@ eventOf kind operands =
     (cond (eqb kind 5) (noOperand Block operands)
     (cond (eqb kind 6) (oneByte Wake operands)
     (cond (eqb kind 7) (oneWord Charge operands)
-    (cond (eqb kind 8) (oneByte Abort operands) none)))))))
+    (cond (eqb kind 8) (oneByte Abort operands)
+    (cond (eqb kind 9) (oneByte Refill operands) none))))))))
 
 abbrev pub bodyOf : List ℕ → Option Event
 bodyOf [] = none

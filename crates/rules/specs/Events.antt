@@ -1,4 +1,4 @@
--- Document 01, "Events": what an accepted event does to the dispatcher's machine.
+-- Document 01, "Events", and document 02, [2]: what an accepted event does to the dispatcher's machine.
 use Prim.Native.Nat.{ℕ, zero, suc, _+_, _-_}
 use mathlib.Core.Bool.{Bool, true, false, cond}
 use mathlib.Core.Option.{Option, none, some}
@@ -9,19 +9,19 @@ use Rattle.rules.specs.declared.Hold.{Hold}
 use Rattle.rules.specs.declared.Hold.the-variants.{Ready, Idle, Blocked, Calling, Helping}
 use Rattle.rules.specs.declared.Service.{Service}
 use Rattle.rules.specs.declared.Service.the-variants.{Nobody, Serving, Orphan}
-use Rattle.rules.specs.declared.Place.the-variants.{Queue}
+use Rattle.rules.specs.declared.Place.the-variants.{Queue, Spent}
 use Rattle.rules.specs.declared.Running.{Running}
 use Rattle.rules.specs.declared.Running.the-variants.{Nothing, Runs}
 use Rattle.rules.specs.declared.Chain.{Chain}
 use Rattle.rules.specs.declared.Event.{Event}
-use Rattle.rules.specs.declared.Event.the-variants.{Create, Give, Call, Reply, Block, Wake, Charge, Abort}
-use Rattle.rules.specs.State.{State, forget, holdAt, serviceAt, sliceAt, withThreads, withPlaces, withRunning, withTimeslices}
+use Rattle.rules.specs.declared.Event.the-variants.{Create, Give, Call, Reply, Block, Wake, Charge, Abort, Refill}
+use Rattle.rules.specs.State.{State, forget, holdAt, serviceAt, leftAt, withThreads, withPlaces, withRunning, withTimeslices}
 use Rattle.rules.specs.Order.{standsAbove}
 use Rattle.rules.specs.Walk.{walk}
 use Rattle.rules.specs.Threads.{setHold, created, donate, replied, aborted}
 use Rattle.rules.specs.Timeslices.{given, last, toBack, charged, refilled}
-use Rattle.rules.specs.Release.{behind, onThread, stalled, topmostAt, release}
-use Rattle.rules.specs.Choice.{Outcome, choose}
+use Rattle.rules.specs.Release.{onThread, stalled, topmostAt, release}
+use Rattle.rules.specs.Choice.{Outcome, park, choose}
 use Rattle.rules.specs.Sound.{isBlocked, sound}
 use Rattle.rules.specs.Refusals.{refusal}
 
@@ -47,6 +47,10 @@ abbrev pub overtakes : State → Option ℕ → Bool
 overtakes s none = false
 overtakes s (some q) = aboveRunning s q (s .running)
 
+-- the timeslice has joined Queue
+abbrev pub joins : ℕ → State → Midway
+joins t s = record { state = s; links = 0; chooses = overtakes s (some t) }
+
 -- those On a thread are released: the topmost of them joins Queue
 unfoldable pub releases : ℕ → State → Midway
 releases n s = record { state = release (onThread n) s; links = 0; chooses = overtakes s (topmostAt (onThread n) s) }
@@ -61,9 +65,7 @@ withGiven t n priority quantum s =
     withPlaces (set (s .places) t Queue) (withTimeslices (given t n priority quantum (s .slices)) (last t (s .order)) s)
 
 unfoldable pub give : ℕ → ℕ → ℕ → ℕ → State → Midway
-give t n priority quantum s =
-    let u = withGiven t n priority quantum s in
-    record { state = u; links = 0; chooses = overtakes u (some t) }
+give t n priority quantum s = joins t (withGiven t n priority quantum s)
 
 -- Call, server Idle: "donation ... the server ... running, count + 1, those On the server are released; choice only if a released one
 -- stands above the current"
@@ -114,16 +116,17 @@ block s = blockBy s (s .running)
 unfoldable pub wake : ℕ → State → Midway
 wake n s = releases n (withThreads (setHold n Ready (s .threads)) s)
 
--- Charge: "At 0 it is refilled to the quantum, goes to the back of the turn order, followers are released; choice."
-unfoldable pub depletes : ℕ → State → Midway
-depletes t s = choosesIn (release (behind t) (withTimeslices (refilled t (s .slices)) (toBack t (s .order)) s))
+-- Charge, document 02, [2]: "a charge that brings left to 0 leaves it at 0, moves the timeslice to the back of the turn order, releases
+-- its followers and gives it a new place, Spent"; choice
+unfoldable pub depletes : ℕ → ℕ → State → Midway
+depletes t units s = choosesIn (park t Spent (withTimeslices (charged t units (s .slices)) (toBack t (s .order)) s))
 
 unfoldable pub spends : ℕ → ℕ → State → Midway
 spends t units s = stays (withTimeslices (charged t units (s .slices)) (s .order) s)
 
 abbrev pub chargeBy : ℕ → State → Running → Midway
 chargeBy units s Nothing = stays s
-chargeBy units s (Runs n t count) = cond (eqb (sliceAt (s .slices) t .left) units) (depletes t s) (spends t units s)
+chargeBy units s (Runs n t count) = cond (eqb (leftAt (s .slices) t) units) (depletes t units s) (spends t units s)
 
 unfoldable pub charge : ℕ → State → Midway
 charge units s = chargeBy units s (s .running)
@@ -149,6 +152,13 @@ abortAfter n c s =
 unfoldable pub abort : ℕ → State → Midway
 abort n s = abortAfter n (walk (s .threads) n) s
 
+-- Refill, document 02, [2]: "sets left to the quantum and puts it in Queue, with choice as for a wake"
+unfoldable pub withRefilled : ℕ → State → State
+withRefilled t s = withPlaces (set (s .places) t Queue) (withTimeslices (refilled t (s .slices)) (s .order) s)
+
+unfoldable pub refill : ℕ → State → Midway
+refill t s = joins t (withRefilled t s)
+
 -- the machine that an accepted event hands to the choice, or that is its result
 abbrev pub midway : Event → State → Midway
 midway (Create n r) s = create n r s
@@ -159,6 +169,7 @@ midway Block s = block s
 midway (Wake n) s = wake n s
 midway (Charge units) s = charge units s
 midway (Abort n) s = abort n s
+midway (Refill t) s = refill t s
 
 abbrev pub settleIf : Bool → Outcome → Outcome
 settleIf true o = choose o

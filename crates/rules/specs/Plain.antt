@@ -14,8 +14,8 @@ use Rattle.rules.specs.declared.Running.{Running}
 use Rattle.rules.specs.declared.Running.the-variants.{Nothing, Runs}
 use Rattle.rules.specs.declared.Chain.{Chain}
 use Rattle.rules.specs.declared.Event.{Event}
-use Rattle.rules.specs.declared.Event.the-variants.{Create, Give, Call, Reply, Block, Wake, Charge, Abort}
-use Rattle.rules.specs.State.{Slice, Plain, limit, freeThread, freeSlice, holdAt, serviceAt, sliceAt, liveThreads}
+use Rattle.rules.specs.declared.Event.the-variants.{Create, Give, Call, Reply, Block, Wake, Charge, Abort, Refill}
+use Rattle.rules.specs.State.{Slice, Plain, limit, freeThread, freeSlice, holdAt, serviceAt, leftAt, liveThreads}
 use Rattle.rules.specs.Order.{topmost}
 use Rattle.rules.specs.Walk.{chainOf, verdict, mayRun, Verdict, runs, retries, waits, stalls}
 use Rattle.rules.specs.Threads.{setHold, created, donate, replied, aborted}
@@ -67,11 +67,11 @@ abbrev pub plainBlock : Plain → Running → Plain
 plainBlock p Nothing = p
 plainBlock p (Runs n t count) = plainThreads (setHold n Blocked (p .threads)) p
 
--- Charge: at 0 refilled and to the back
+-- Charge: at 0 to the back
 abbrev pub plainCharge : ℕ → Plain → Running → Plain
 plainCharge units p Nothing = p
 plainCharge units p (Runs n t count) =
-    cond (eqb (sliceAt (p .slices) t .left) units) (plainTimeslices (refilled t (p .slices)) (toBack t (p .order)) p)
+    cond (eqb (leftAt (p .slices) t) units) (plainTimeslices (charged t units (p .slices)) (toBack t (p .order)) p)
     (plainTimeslices (charged t units (p .slices)) (p .order) p)
 
 abbrev pub update : Event → Plain → Plain
@@ -83,6 +83,7 @@ update Block p = plainBlock p (p .running)
 update (Wake n) p = plainThreads (setHold n Ready (p .threads)) p
 update (Charge units) p = plainCharge units p (p .running)
 update (Abort n) p = plainThreads (aborted n (p .threads)) p
+update (Refill t) p = plainTimeslices (refilled t (p .slices)) (p .order) p
 
 -- "If that end is Idle, the last helper's retry is made as above and it judges again. If the end is Ready, that thread runs,
 -- this timeslice is current, and the count is its chain's." (The others do not let it run.)
@@ -100,7 +101,7 @@ abbrev pub judgeTop : (Plain → Plain) → Plain → Option ℕ → Plain
 judgeTop again p none = plainRunning Nothing p
 judgeTop again p (some t) = judgeChain again p t (chainOf (p .threads) (p .slices) t)
 
--- "of all live timeslices whose chain's end lets them run, it takes the topmost"
+-- "of all live timeslices whose chain's end lets them run, it takes the topmost"; of one with nothing left it does not (document 02, [2])
 abbrev pub topmostRunnable : Plain → Option ℕ
 topmostRunnable p = topmost (p .slices) (λ t. mayRun (p .threads) (p .slices) t) (p .order)
 

@@ -1,13 +1,15 @@
--- Document 01, "Refusals, operation by operation", after the refusal 1 of an unsound machine. Both machines refuse by these.
+-- Document 01, "Refusals, operation by operation", and the numbers of document 02, after the refusal 1 of an unsound machine. Both
+-- machines refuse by these.
 use Prim.Native.Nat.{ℕ}
 use mathlib.Core.Bool.{Bool, cond, not, _||_}
 use lib.Dec.{ltb, eqb}
 use Rattle.rules.specs.declared.Event.{Event}
-use Rattle.rules.specs.declared.Event.the-variants.{Create, Give, Call, Reply, Block, Wake, Charge, Abort}
+use Rattle.rules.specs.declared.Event.the-variants.{Create, Give, Call, Reply, Block, Wake, Charge, Abort, Refill}
 use Rattle.rules.specs.Tests.{member, someOf}
-use Rattle.rules.specs.State.{Plain, holdAt, liveAt, ownerAt, sliceAt, nothingRuns, runningThread, currentTimeslice}
+use Rattle.rules.specs.State.{Plain, holdAt, liveAt, ownerAt, leftAt, nothingRuns, runningThread, currentTimeslice}
 pub use Rattle.rules.specs.Holds.{linked}
 use Rattle.rules.specs.Holds.{isBlocked, serverAt}
+use Rattle.rules.specs.Walk.{hasTime}
 
 -- the first fitting number; 0 for none
 infixr 20 _gives_else_
@@ -44,8 +46,13 @@ refusal (Wake n) p =
     not (isBlocked (holdAt (p .threads) n)) gives 9 else 0
 refusal (Charge units) p =
     nothingRuns (p .running) gives 5 else
-    eqb units 0 || ltb (sliceAt (p .slices) (currentTimeslice (p .running)) .left) units gives 11 else 0
+    eqb units 0 || ltb (leftAt (p .slices) (currentTimeslice (p .running))) units gives 11 else 0
 refusal (Abort n) p =
     aboveLimit n gives 2 else
     not (liveAt (p .threads) n) gives 4 else
     not (linked (holdAt (p .threads) n)) gives 10 else 0
+-- Refill, document 02, [2]: "18, refill of a live timeslice that is not Spent, after 1, 2 and 4, where 4 means no such live timeslice"
+refusal (Refill t) p =
+    aboveLimit t gives 2 else
+    not (member t (p .order)) gives 4 else
+    hasTime (p .slices) t gives 18 else 0

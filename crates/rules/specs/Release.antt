@@ -6,16 +6,17 @@ use mathlib.Core.Option.{Option, none, some}
 use lib.ListN.{set}
 use lib.Dec.{eqb}
 use Rattle.rules.specs.declared.Place.{Place}
-use Rattle.rules.specs.declared.Place.the-variants.{Queue, Behind, On, Stalled}
+use Rattle.rules.specs.declared.Place.the-variants.{Queue, Behind, On, Stalled, Spent}
 use Rattle.rules.specs.State.{State, placeAt, withPlaces}
 use Rattle.rules.specs.Order.{topmost}
 
--- the sets that are released or chosen from
+-- the sets that are released or chosen from; no Spent timeslice is in one of them: document 02, [2], "no release touches it"
 abbrev pub inQueue : Place → Bool
 inQueue Queue = true
 inQueue (Behind q) = false
 inQueue (On n) = false
 inQueue Stalled = false
+inQueue Spent = false
 
 -- the followers of timeslice t
 abbrev pub behind : ℕ → Place → Bool
@@ -23,6 +24,7 @@ behind t Queue = false
 behind t (Behind q) = eqb q t
 behind t (On n) = false
 behind t Stalled = false
+behind t Spent = false
 
 -- those On thread n
 abbrev pub onThread : ℕ → Place → Bool
@@ -30,12 +32,22 @@ onThread n Queue = false
 onThread n (Behind q) = false
 onThread n (On m) = eqb m n
 onThread n Stalled = false
+onThread n Spent = false
 
 abbrev pub stalled : Place → Bool
 stalled Queue = false
 stalled (Behind q) = false
 stalled (On n) = false
 stalled Stalled = true
+stalled Spent = false
+
+-- the Spent ones
+abbrev pub isSpent : Place → Bool
+isSpent Queue = false
+isSpent (Behind q) = false
+isSpent (On n) = false
+isSpent Stalled = false
+isSpent Spent = true
 
 -- the topmost of the timeslices at such a place
 abbrev pub topmostAt : (Place → Bool) → State → Option ℕ

@@ -1,4 +1,4 @@
--- Document 01, "A sound machine", as a test that computes, with its clauses separately named.
+-- Document 01, "A sound machine", and document 02, [2], as a test that computes, with its clauses separately named.
 use Prim.Native.Nat.{ℕ}
 use mathlib.Core.List.{List, map}
 use mathlib.Core.Bool.{Bool, true, false, not, _&&_, _||_}
@@ -11,16 +11,17 @@ use Rattle.rules.specs.declared.Service.{Service}
 use Rattle.rules.specs.declared.Service.the-variants.{Nobody, Serving, Orphan}
 use Rattle.rules.specs.declared.Thread.{Thread}
 use Rattle.rules.specs.declared.Place.{Place}
-use Rattle.rules.specs.declared.Place.the-variants.{Queue, Behind, On, Stalled}
+use Rattle.rules.specs.declared.Place.the-variants.{Queue, Behind, On, Stalled, Spent}
 use Rattle.rules.specs.declared.Running.{Running}
 use Rattle.rules.specs.declared.Running.the-variants.{Nothing, Runs}
 use Rattle.rules.specs.declared.Chain.{Chain}
 use Rattle.rules.specs.Tests.{member, distinct, all, below, implies, agree}
-use Rattle.rules.specs.State.{Slice, State, Plain, forget, limit, threadAt, holdAt, serviceAt, liveAt, sliceAt, ownerAt, placeAt}
+use Rattle.rules.specs.State.{Slice, State, Plain, forget, limit, threadAt, holdAt, serviceAt, liveAt, sliceAt, ownerAt, leftAt}
+use Rattle.rules.specs.State.{placeAt}
 pub use Rattle.rules.specs.Holds.{isServer, isReady, isIdle, isBlocked, isCalling, isNobody, isServing, serverAt}
 use Rattle.rules.specs.Order.{standsAbove}
 use Rattle.rules.specs.Walk.{chainOf, verdict, Verdict, runs, retries, waits, stalls}
-use Rattle.rules.specs.Release.{inQueue, topmostAt}
+use Rattle.rules.specs.Release.{inQueue, isSpent, topmostAt}
 
 -- the tables have a slot for each number
 abbrev pub tablesFull : Plain → Bool
@@ -34,9 +35,9 @@ turnsOnce p = all (λ t. ltb t limit) (p .order) && distinct (p .order)
 abbrev pub ownersLive : Plain → Bool
 ownersLive p = all (λ t. liveAt (p .threads) (ownerAt (p .slices) t)) (p .order) && distinct (map (λ t. ownerAt (p .slices) t) (p .order))
 
--- "ranges hold"
+-- "ranges hold"; left is 0 to quantum since document 02, [2]
 abbrev pub inRange : Slice → Bool
-inRange x = leb (x .priority) 255 && leb (x .quantum) 65535 && leb 1 (x .left) && leb (x .left) (x .quantum)
+inRange x = leb (x .priority) 255 && leb 1 (x .quantum) && leb (x .quantum) 65535 && leb (x .left) (x .quantum)
 
 abbrev pub rangesHold : Plain → Bool
 rangesHold p = all (λ t. inRange (sliceAt (p .slices) t)) (p .order)
@@ -120,12 +121,18 @@ placeGood s t c Queue = true
 placeGood s t c (Behind q) = member q (s .order) && inQueue (placeAt (s .places) q) && standsAbove (s .slices) (s .order) q t
 placeGood s t c (On n) = waitsAt n c (verdict (s .threads) c)
 placeGood s t c Stalled = isStalls (verdict (s .threads) c)
+placeGood s t c Spent = true
+
+-- Document 02, [2]: "Left is 0 exactly for Spent."
+abbrev pub spentGood : ℕ → Place → Bool
+spentGood left p = agree (isSpent p) (eqb left 0)
 
 -- every timeslice has a true place, and free slots the fixed one
 unfoldable pub placed : State → Bool
 placed s =
     eqb (length (s .places)) limit
     && all (λ t. placeGood s t (chainOf (s .threads) (s .slices) t) (placeAt (s .places) t)) (s .order)
+    && all (λ t. spentGood (leftAt (s .slices) t) (placeAt (s .places) t)) (s .order)
     && below limit (λ t. member t (s .order) || inQueue (placeAt (s .places) t))
 
 -- "its walk ends, Ready, at the running thread, with the stored count"

@@ -89,6 +89,9 @@ ownerAt ss t = sliceAt ss t .owner
 abbrev pub priorityAt : List Slice → ℕ → ℕ
 priorityAt ss t = sliceAt ss t .priority
 
+abbrev pub leftAt : List Slice → ℕ → ℕ
+leftAt ss t = sliceAt ss t .left
+
 abbrev pub placeAt : List Place → ℕ → Place
 placeAt ps t = getD ps t freePlace
 

@@ -1,10 +1,10 @@
--- Document 01, "Events": what they do to the timeslices and the turn order, in either machine.
+-- Document 01, "Events", and document 02, [2]: what they do to the timeslices and the turn order, in either machine.
 use Prim.Native.Nat.{ℕ, _-_}
 use mathlib.Core.List.{List, [], _∷_, _++_}
 use mathlib.Core.Bool.{cond}
 use lib.ListN.{set}
 use lib.Dec.{eqb}
-use Rattle.rules.specs.State.{Slice, sliceAt}
+use Rattle.rules.specs.State.{Slice, sliceAt, leftAt}
 
 abbrev pub withLeft : ℕ → Slice → Slice
 withLeft n x = record { owner = x .owner; priority = x .priority; quantum = x .quantum; left = n }
@@ -24,14 +24,14 @@ unfoldable pub without : ℕ → List ℕ → List ℕ
 without t [] = []
 without t (u ∷ us) = cond (eqb u t) us (u ∷ without t us)
 
--- Charge: "goes to the back of the turn order"
+-- Charge: "moves the timeslice to the back of the turn order"
 unfoldable pub toBack : ℕ → List ℕ → List ℕ
 toBack t order = last t (without t order)
 
 -- Charge: "the current timeslice's left falls by the charge"
 unfoldable pub charged : ℕ → ℕ → List Slice → List Slice
-charged t units ss = setLeft t (sliceAt ss t .left - units) ss
+charged t units ss = setLeft t (leftAt ss t - units) ss
 
--- Charge: "it is refilled to the quantum"
+-- Refill: "sets left to the quantum"
 unfoldable pub refilled : ℕ → List Slice → List Slice
 refilled t ss = setLeft t (sliceAt ss t .quantum) ss

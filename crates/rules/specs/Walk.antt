@@ -1,13 +1,13 @@
 -- Document 01, "The walk".
 use Prim.Native.Nat.{ℕ, zero, suc, _+_}
 use mathlib.Core.List.{List}
-use mathlib.Core.Bool.{Bool, true, false, cond}
-use lib.Dec.{ltb}
+use mathlib.Core.Bool.{Bool, true, false, cond, not, _&&_}
+use lib.Dec.{ltb, eqb}
 use Rattle.rules.specs.declared.Hold.{Hold}
 use Rattle.rules.specs.declared.Hold.the-variants.{Ready, Idle, Blocked, Calling, Helping}
 use Rattle.rules.specs.declared.Thread.{Thread}
 use Rattle.rules.specs.declared.Chain.{Chain}
-use Rattle.rules.specs.State.{Slice, holdAt, ownerAt, liveThreads}
+use Rattle.rules.specs.State.{Slice, holdAt, ownerAt, leftAt, liveThreads}
 
 -- before the first link
 abbrev pub noLinks : Chain
@@ -75,8 +75,12 @@ lets retries = true
 lets waits = false
 lets stalls = false
 
+-- Document 02, [2]: "A Spent timeslice cannot run", and "Left is 0 exactly for Spent". The plain machine has no places, so left says it.
+abbrev pub hasTime : List Slice → ℕ → Bool
+hasTime ss t = not (eqb (leftAt ss t) 0)
+
 abbrev pub mayRun : List Thread → List Slice → ℕ → Bool
-mayRun ts ss t = lets (verdict ts (chainOf ts ss t))
+mayRun ts ss t = lets (verdict ts (chainOf ts ss t)) && hasTime ss t
 
 -- a thread's link, for "all links": which server it is Calling or Helping, if any
 pub data Link : Type 0 where

@@ -1,4 +1,4 @@
-// Document 01, "What belongs to the machine": the records of threads and timeslices, and the events.
+// Document 01, "What belongs to the machine", and document 02, [2]: the records of threads and timeslices, and the events.
 // What they mean is defined in specs/.
 
 // A thread is a client or a server.
@@ -43,11 +43,13 @@ impl Thread {
     };
 }
 
+// Spent: nothing is left of it until it is refilled.
 pub enum Place {
     Queue,
     Behind(u8),
     On(u8),
     Stalled,
+    Spent,
 }
 
 pub struct Timeslice {
@@ -117,5 +119,8 @@ pub enum Event {
     },
     Abort {
         thread: u8,
+    },
+    Refill {
+        timeslice: u8,
     },
 }

@@ -2,7 +2,7 @@
 use Prim.Native.Nat.{ℕ, _≤_, _<_}
 use mathlib.Core.Path.{_≡_, refl, sym, _∙_, ap, ap₂}
 use mathlib.Core.List.{List, map}
-use mathlib.Core.Bool.{Bool, true, false, _&&_, _||_}
+use mathlib.Core.Bool.{Bool, false, _&&_, _||_}
 use lib.ListN.{getD}
 use lib.Dec.{leb, eqb}
 use borrow.Author.Tests.{le-leb, lt-leb, eq-eqb, ne-eqb}
@@ -23,21 +23,17 @@ use Rattle.tables.specs.Verdicts.{verdictOf}
 use Rattle.tables.specs.Sets.{soughtOf}
 use Rattle.tables.specs.Timeslices.{sliceOf, placeOf, freeTimeslice}
 use Rattle.tables.proofs.Lookups.{slice-at, place-at}
+use Rattle.rules.proofs.Basics.Views.{and-false-right}
 use Rattle.soundness.specs.Parts.{partsOf, chainWithin, placeTest, runsOn, settledBy, settledWithin}
 
--- a conjunction with a part that fails
-pub and-no : (a b : Bool) → b ≡ false → (a && b) ≡ false
-and-no true b e = e
-and-no false b e = refl
+-- priority and quantum are not too large by their types
+pub no-quantum : (x : Slice) → x .quantum < 1 → false ≡ inRange x
+no-quantum x h =
+    let low = and-false-right (leb (x .priority) 255) (leb 1 (x .quantum)) (lt-leb 1 (x .quantum) h) in
+    sym (ap (λ (b : Bool). b && leb (x .quantum) 65535 && leb (x .left) (x .quantum)) low)
 
--- priority and quantum are in range by their types
-pub none-left : (x : Slice) → x .left < 1 → false ≡ inRange x
-none-left x h =
-    let rest = leb (x .priority) 255 && leb (x .quantum) 65535 in
-    rw (lt-leb 1 (x .left) h) (sym (ap (λ (b : Bool). b && leb (x .left) (x .quantum)) (and-no rest false refl)))
-
-pub some-left : (x : Slice) → x .priority ≤ 255 → x .quantum ≤ 65535 → 1 ≤ x .left → leb (x .left) (x .quantum) ≡ inRange x
-some-left x p q l = rw (le-leb (x .priority) 255 p, le-leb (x .quantum) 65535 q, le-leb 1 (x .left) l) refl
+pub some-quantum : (x : Slice) → x .priority ≤ 255 → x .quantum ≤ 65535 → 1 ≤ x .quantum → leb (x .left) (x .quantum) ≡ inRange x
+some-quantum x p q l = rw (le-leb (x .priority) 255 p, le-leb 1 (x .quantum) l, le-leb (x .quantum) 65535 q) refl
 
 -- the last field of a free timeslice
 pub last-free : (x : Slice) → x .owner ≡ 0 → x .priority ≡ 0 → x .quantum ≡ 0 → eqb (x .left) 0 ≡ sliceFree x

@@ -13,11 +13,10 @@ use lib.Seq.{drop-cons, take-suc, append-snoc, length-take-le, set-at, take-at}
 use Rattle.rules.specs.declared.Thread.{Thread}
 use Rattle.rules.specs.Tests.{member, distinct, all, below}
 use Rattle.rules.specs.State.{limit, freeThread, threadAt, liveThreads, oneMoreIf}
-use Rattle.rules.proofs.Basics.Views.{and-true-both}
+use Rattle.rules.proofs.Basics.Views.{and-true-both, and-false-right}
 use Rattle.tables.specs.Turning.{entriesOf}
 use Rattle.tables.proofs.Lookups.{take-entries}
 use Rattle.tables.proofs.Along.{Along, here, next, out}
-use Rattle.soundness.proofs.Clauses.{and-no}
 
 module _ (f : ℕ → Bool) where
   -- the test holds of the numbers below n
@@ -42,7 +41,7 @@ module _ (f : ℕ → Bool) where
   below-no zero n h e = absurd (omega arith)
   below-no (suc m) n h e =
       let le : n ≤ m = omega arith in
-      ⊎-elim (λ same. and-no (below m f) (f m) (ap f (sym same) ∙ e)) (λ less. ap (λ (b : Bool). b && f m) (below-no m n less e))
+      ⊎-elim (λ same. and-false-right (below m f) (f m) (ap f (sym same) ∙ e)) (λ less. ap (λ (b : Bool). b && f m) (below-no m n less e))
       (eq-or-lt-of-le le)
 
   pub one-fails : (n : ℕ) (r : Bool) → n < 128 → r ≡ f n → r ≡ false → false ≡ below limit f

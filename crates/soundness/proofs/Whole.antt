@@ -9,17 +9,18 @@ use lib.Dec.{leb, ltb, eqb}
 use borrow.Author.Tests.{eqb-true, eq-eqb}
 use Rattle.rules.specs.declared.Chain.{Chain}
 use Rattle.rules.specs.declared.Place.{Place}
-use Rattle.rules.specs.declared.Place.the-variants.{Queue, Behind, On, Stalled}
+use Rattle.rules.specs.declared.Place.the-variants.{Queue, Behind, On, Stalled, Spent}
 use Rattle.rules.specs.declared.Thread.{Thread}
 use Rattle.rules.specs.declared.Timeslice.{Timeslice}
 use Rattle.rules.specs.declared.Running.{Running}
 use Rattle.rules.specs.declared.Running.the-variants.{Nothing, Runs}
 use Rattle.rules.specs.Tests.{member, distinct, all, below}
-use Rattle.rules.specs.State.{State, forget, limit, threadAt, holdAt, serviceAt, liveAt, ownerAt, sliceAt, placeAt, liveThreads}
+use Rattle.rules.specs.State.{State, forget, limit, threadAt, holdAt, serviceAt, liveAt, ownerAt, sliceAt, leftAt, placeAt}
+use Rattle.rules.specs.State.{liveThreads}
 use Rattle.rules.specs.Walk.{walk, walkFrom, chainOf, noLinks}
 use Rattle.rules.specs.Release.{inQueue, topmostAt}
 use Rattle.rules.specs.Sound.{callIsServed, servedIsCalling, linkGood, idleGood, threadFree, sliceFree, inRange, placeGood}
-use Rattle.rules.specs.Sound.{shaped, placed, settledOn, settled, sound}
+use Rattle.rules.specs.Sound.{spentGood, shaped, placed, settledOn, settled, sound}
 use Rattle.rules.proofs.Basics.Views.{and-true-left, and-true-right, and-true-both, and3, and4, and5}
 use Rattle.rules.proofs.Basics.Members.{all-at, all-of, below-at, below-of}
 use Rattle.rules.proofs.Soundness.Shapes.{clauses, from-clauses}
@@ -40,6 +41,7 @@ place-running threads ts order live now t c Queue = refl
 place-running threads ts order live now t c (Behind q) = refl
 place-running threads ts order live now t c (On n) = refl
 place-running threads ts order live now t c Stalled = refl
+place-running threads ts order live now t c Spent = refl
 
 -- what settles a state, whichever way it is asked
 settled-on : (s : State) (o : Option ℕ) (now : Running)
@@ -104,6 +106,9 @@ module _ (threads : List Thread) (ts : List Timeslice) (order : List ℕ) (lives
   abbrev truly : ℕ → Bool
   truly t = placeGood s t (chainOf threads (map sliceOf ts) t) (placeAt (map placeOf ts) t)
 
+  abbrev timed : ℕ → Bool
+  timed t = spentGood (leftAt (map sliceOf ts) t) (placeAt (map placeOf ts) t)
+
   -- with a true L the chains are document 01's
   chains : lives ≡ liveThreads threads → (t : ℕ) → chainWithin lives threads ts t ≡ chainOf threads (map sliceOf ts) t
   unfolding walk
@@ -140,8 +145,9 @@ module _ (threads : List Thread) (ts : List Timeslice) (order : List ℕ) (lives
         let thread : (n : ℕ) → n < limit → (calling n ≡ true) × (linking n ≡ true) × (idling n ≡ true) × (freed n ≡ true) =
         λ n h. and4 (calling n) (linking n) (idling n) (freed n) (number n h .1) in
         let turn : (t : ℕ) → member t turns ≡ true
-        → (numbered t ≡ true) × (owned t ≡ true) × (ranged t ≡ true) × (placeTest threads ts order lives live t ≡ true) =
-        λ t h. and4 (numbered t) (owned t) (ranged t) (placeTest threads ts order lives live t)
+        → (numbered t ≡ true) × (owned t ≡ true) × (ranged t ≡ true) × (placeTest threads ts order lives live t ≡ true)
+        × (timed t ≡ true) =
+        λ t h. and5 (numbered t) (owned t) (ranged t) (placeTest threads ts order lives live t) (timed t)
         (all-at (λ u. turnTest threads ts order lives live u) turns (x .1) t h) in
         let shape = from-clauses (forget s) record {
           tables = and-true-both (eqb (length threads) limit) _ (eq-eqb (length threads) limit full) slots;
@@ -158,9 +164,11 @@ module _ (threads : List Thread) (ts : List Timeslice) (order : List ℕ) (lives
         let entries = below-of (λ i. entryFree order live i) limit (λ n h. number n h .0) in
         let stored = and-true-both (counted && leb live limit) _ (and-true-both counted (leb live limit) (y .0) (y .1)) entries in
         let listed = all-of truly turns (λ t h. sym (place-tests lived t) ∙ turn t h .3) in
+        let exact = all-of timed turns (λ t h. turn t h .4) in
         let free = below-of unplaced limit (λ t h. and-true-right (unlisted t) (unplaced t) (number t h .2)) in
         let room = eq-eqb (length (map placeOf ts)) limit (length-map ts placeOf ∙ long) in
-        let put = and-true-both _ _ (and-true-both (eqb (length (map placeOf ts)) limit) _ room listed) free in
+        let places-true = and-true-both (eqb (length (map placeOf ts)) limit) _ room listed in
+        let put = and-true-both _ _ (and-true-both _ (all timed turns) places-true exact) free in
         and-true-both (storedParts threads order lives live) _ stored
         (and-true-both _ (settled s) (and-true-both (shaped (forget s)) _ shape put) (sym (settles lived) ∙ x .4))
 
@@ -173,10 +181,10 @@ module _ (threads : List Thread) (ts : List Timeslice) (order : List ℕ) (lives
         (and-true-left (storedParts threads order lives live) (sound s) e) in
         let lived = eqb-true lives (liveThreads threads) (stored .0) in
         let room = eqb (length (map placeOf ts)) limit in
-        let held = room && all truly turns && below limit unplaced in
+        let held = room && all truly turns && all timed turns && below limit unplaced in
         let parts = and3 (shaped (forget s)) held (settled s) (and-true-right (storedParts threads order lives live) (sound s) e) in
         let shape = clauses (forget s) (parts .0) in
-        let put = and3 room (all truly turns) (below limit unplaced) (parts .1) in
+        let put = and4 room (all truly turns) (all timed turns) (below limit unplaced) (parts .1) in
         let thread : (n : ℕ) → n < limit → threadTest threads n ≡ true =
         λ n h. and-true-both (calling n && linking n && idling n) (freed n)
         (and-true-both (calling n && linking n) (idling n)
@@ -186,20 +194,22 @@ module _ (threads : List Thread) (ts : List Timeslice) (order : List ℕ) (lives
         let slot : (t : ℕ) → t < limit → slotTest ts order live t ≡ true =
         λ t h. and-true-both (unlisted t) (unplaced t)
         (below-at unlisted limit (and-true-right (below limit freed) (below limit unlisted) (shape .free)) t h)
-        (below-at unplaced limit (put .2) t h) in
+        (below-at unplaced limit (put .3) t h) in
         let number : (n : ℕ) → n < limit → numberTest threads ts order live n ≡ true =
         λ n h. and-true-both (entryFree order live n && threadTest threads n) (slotTest ts order live n)
         (and-true-both (entryFree order live n) (threadTest threads n) (below-at (λ i. entryFree order live i) limit (stored .2) n h)
         (thread n h))
         (slot n h) in
         let turn : (t : ℕ) → member t turns ≡ true → turnTest threads ts order lives live t ≡ true =
-        λ t h. and-true-both (numbered t && owned t && ranged t) (placeTest threads ts order lives live t)
+        λ t h. and-true-both (numbered t && owned t && ranged t && placeTest threads ts order lives live t) (timed t)
+        (and-true-both (numbered t && owned t && ranged t) (placeTest threads ts order lives live t)
         (and-true-both (numbered t && owned t) (ranged t)
         (and-true-both (numbered t) (owned t)
         (all-at numbered turns (and-true-left (all numbered turns) (distinct turns) (shape .turns)) t h)
         (all-at owned turns (and-true-left (all owned turns) (distinct owners) (shape .owners)) t h))
         (all-at ranged turns (shape .ranges) t h))
-        (place-tests lived t ∙ all-at truly turns (put .1) t h) in
+        (place-tests lived t ∙ all-at truly turns (put .1) t h))
+        (all-at timed turns (put .2) t h) in
         let counts = and-true-both counted (leb live limit) (stored .0) (stored .1) in
         let all-numbers = and-true-both (counted && leb live limit) numbers counts
         (below-of (λ n. numberTest threads ts order live n) limit number) in

@@ -12,10 +12,12 @@ use Rattle.rules.specs.declared.Chain.{Chain}
 use Rattle.rules.specs.declared.Running.{Running}
 use Rattle.rules.specs.declared.Running.the-variants.{Nothing, Runs}
 use Rattle.rules.specs.Tests.{member, below}
-use Rattle.rules.specs.State.{State, limit, threadAt, holdAt, serviceAt, liveAt, ownerAt, sliceAt, placeAt, liveThreads, nothingRuns}
+use Rattle.rules.specs.State.{State, limit, threadAt, holdAt, serviceAt, liveAt, ownerAt, sliceAt, leftAt, placeAt, liveThreads}
+use Rattle.rules.specs.State.{nothingRuns}
 use Rattle.rules.specs.Walk.{noLinks, walkFrom, verdict}
 use Rattle.rules.specs.Release.{inQueue, topmostAt}
-use Rattle.rules.specs.Sound.{callIsServed, servedIsCalling, linkGood, idleGood, threadFree, sliceFree, inRange, placeGood, runsAs, sound}
+use Rattle.rules.specs.Sound.{callIsServed, servedIsCalling, linkGood, idleGood, threadFree, sliceFree, inRange, placeGood}
+use Rattle.rules.specs.Sound.{spentGood, runsAs, sound}
 use Rattle.tables.specs.Timeslices.{sliceOf, placeOf}
 
 -- the state that these parts show
@@ -81,6 +83,7 @@ turnTest threads timeslices order most live t =
     && liveAt threads (ownerAt (map sliceOf timeslices) t)
     && inRange (sliceAt (map sliceOf timeslices) t)
     && placeTest threads timeslices order most live t
+    && spentGood (leftAt (map sliceOf timeslices) t) (placeAt (map placeOf timeslices) t)
 
 -- q is the current timeslice, and its chain ends at the running thread
 abbrev pub runsOn : List Thread → Chain → ℕ → Running → Bool

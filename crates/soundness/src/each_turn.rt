@@ -5,6 +5,7 @@ ghost use Rattle.rules.specs.Tests.{all};
 ghost use Rattle.soundness.specs.Parts.{turnTest};
 use crate::logic::both;
 use crate::places::place_good;
+use crate::places::spent_good;
 use crate::ranges::in_range;
 use rules::Thread;
 use rules::Timeslice;
@@ -26,10 +27,12 @@ pub(crate) fn turn_good(
     let owner = thread_at(threads, x.owner);
     let owned = both(t < 128, owner.live);
     let ranges = both(owned, in_range(x));
-    both(
+    let placed = both(
         ranges,
         place_good(threads, timeslices, order, live_threads, live, t),
-    )
+    );
+    let place = x.place;
+    both(placed, spent_good(x.left, place))
 }
 
 pub(crate) fn turns_good(

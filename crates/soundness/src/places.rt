@@ -1,4 +1,4 @@
-// Document 01, "A sound machine": every timeslice has a true place, Queue, Behind, On or Stalled.
+// Document 01, "A sound machine", and document 02, [2]: every timeslice has a true place, Queue, Behind, On, Stalled or Spent.
 ghost use mathlib.Core.Path.{_≡_};
 ghost use mathlib.Core.List.{map};
 ghost use mathlib.Core.Bool.{_&&_};
@@ -7,8 +7,10 @@ ghost use Rattle.rules.specs.Tests.{member as memberOf};
 ghost use Rattle.rules.specs.State.{placeAt};
 ghost use Rattle.rules.specs.Release.{inQueue};
 ghost use Rattle.rules.specs.Order.{standsAbove};
+ghost use Rattle.rules.specs.Sound.{spentGood};
 ghost use Rattle.soundness.specs.Parts.{placeTest};
 ghost use Rattle.tables.specs.Timeslices.{sliceOf, placeOf};
+use crate::logic::agree;
 use crate::logic::both;
 use crate::walk_ends::is_stalls;
 use crate::walk_ends::waits_at;
@@ -68,5 +70,14 @@ pub(crate) fn place_good(
             let said = verdict_of(threads, chain);
             is_stalls(said)
         }
+        Place::Spent => true,
     }
+}
+
+// "Left is 0 exactly for Spent."
+pub(crate) fn spent_good(left: u16, place: Place) -> bool
+    ensures { λ r. ⌜ r ≡ spentGood left place ⌝ }
+{
+    let spent = in_set(place, Place::Spent);
+    agree(spent, left == 0)
 }

@@ -12,7 +12,7 @@ use lib.Seq.{getD-set-same, getD-set-other}
 use lib.Dec.{ltb, eqb}
 use borrow.Author.Tests.{ltb-true, ltb-false, lt-ltb, le-ltb, eq-eqb, ne-eqb}
 use Rattle.rules.specs.declared.Place.{Place}
-use Rattle.rules.specs.declared.Place.the-variants.{Queue, Behind, On, Stalled}
+use Rattle.rules.specs.declared.Place.the-variants.{Queue, Behind, On, Stalled, Spent}
 use Rattle.rules.specs.declared.Timeslice.{Timeslice}
 use Rattle.rules.specs.State.{Slice, priorityAt, placeAt}
 use Rattle.rules.specs.Order.{topmost, upper}
@@ -166,38 +166,48 @@ same-place Queue Queue = refl
 same-place Queue (Behind u) = refl
 same-place Queue (On m) = refl
 same-place Queue Stalled = refl
+same-place Queue Spent = refl
 same-place (Behind t) Queue = refl
 same-place (Behind t) (Behind u) = refl
 same-place (Behind t) (On m) = refl
 same-place (Behind t) Stalled = refl
+same-place (Behind t) Spent = refl
 same-place (On n) Queue = refl
 same-place (On n) (Behind u) = refl
 same-place (On n) (On m) = refl
 same-place (On n) Stalled = refl
+same-place (On n) Spent = refl
 same-place Stalled Queue = refl
 same-place Stalled (Behind u) = refl
 same-place Stalled (On m) = refl
 same-place Stalled Stalled = refl
+same-place Stalled Spent = refl
+same-place Spent Queue = refl
+same-place Spent (Behind u) = refl
+same-place Spent (On m) = refl
+same-place Spent Stalled = refl
+same-place Spent Spent = refl
 
--- a number below 4 and a multiple of 4 are got back from their sum
-module _ (k l a b : ℕ) (low : k < 4) (low′ : l < 4) where
-  parts-by : Same k l → Same a b → eqb (k + 4 * a) (l + 4 * b) ≡ cond (eqb k l) (eqb a b) false
-  parts-by (equal e t) (equal f u) = rw (t, u) (eq-eqb (k + 4 * a) (l + 4 * b) (omega arith))
-  parts-by (equal e t) (different n u) = rw (t, u) (ne-eqb (k + 4 * a) (l + 4 * b) (λ h. n (omega arith)))
-  parts-by (different n t) v = rw t (ne-eqb (k + 4 * a) (l + 4 * b) (λ h. n (omega arith)))
+-- a number below 8 and a multiple of 8 are got back from their sum
+module _ (k l a b : ℕ) (low : k < 8) (low′ : l < 8) where
+  parts-by : Same k l → Same a b → eqb (k + 8 * a) (l + 8 * b) ≡ cond (eqb k l) (eqb a b) false
+  parts-by (equal e t) (equal f u) = rw (t, u) (eq-eqb (k + 8 * a) (l + 8 * b) (omega arith))
+  parts-by (equal e t) (different n u) = rw (t, u) (ne-eqb (k + 8 * a) (l + 8 * b) (λ h. n (omega arith)))
+  parts-by (different n t) v = rw t (ne-eqb (k + 8 * a) (l + 8 * b) (λ h. n (omega arith)))
 
-  parts : eqb (k + 4 * a) (l + 4 * b) ≡ cond (eqb k l) (eqb a b) false
+  parts : eqb (k + 8 * a) (l + 8 * b) ≡ cond (eqb k l) (eqb a b) false
   parts = parts-by (same k l) (same a b)
 
-four-kinds : (p : Place) → kindOf p < 4
-four-kinds Queue = omega arith
-four-kinds (Behind t) = omega arith
-four-kinds (On n) = omega arith
-four-kinds Stalled = omega arith
+few-kinds : (p : Place) → kindOf p < 8
+few-kinds Queue = omega arith
+few-kinds (Behind t) = omega arith
+few-kinds (On n) = omega arith
+few-kinds Stalled = omega arith
+few-kinds Spent = omega arith
 
 -- different places have different codes
 pub in-set : (p s : Place) → eqb (codeOf p) (codeOf s) ≡ setOf s p
-in-set p s = parts (kindOf p) (kindOf s) (numberOf p) (numberOf s) (four-kinds p) (four-kinds s) ∙ sym (same-place p s)
+in-set p s = parts (kindOf p) (kindOf s) (numberOf p) (numberOf s) (few-kinds p) (few-kinds s) ∙ sym (same-place p s)
 
 -- the highest height in a set is that of its topmost timeslice
 module _ (ts : List Timeslice) (order : List ℕ) (live : ℕ) (codes heights : List ℕ) (full : length order ≡ 128)

@@ -16,9 +16,9 @@ use Rattle.tables.specs.Timeslices.{sliceOf, placeOf}
 use Rattle.tables.specs.Sets.{kindOf, numberOf}
 use Rattle.tables.specs.Turning.{entriesOf}
 
--- a place as one number; as there are four kinds, different places have different codes
+-- a place as one number, with room for eight kinds, so that different places have different codes
 abbrev pub codeOf : Place → ℕ
-codeOf p = kindOf p + 4 * numberOf p
+codeOf p = kindOf p + 8 * numberOf p
 
 -- the higher a timeslice stands, the larger its height: by its priority, and among equals the earlier entry; never 0
 abbrev pub heightOf : ℕ → ℕ → ℕ

@@ -5,11 +5,11 @@ use mathlib.Core.Bool.{Bool}
 use mathlib.Core.Option.{Option, none, some}
 use lib.ListN.{take}
 use Rattle.rules.specs.declared.Place.{Place}
-use Rattle.rules.specs.declared.Place.the-variants.{Queue, Behind, On, Stalled}
+use Rattle.rules.specs.declared.Place.the-variants.{Queue, Behind, On, Stalled, Spent}
 use Rattle.rules.specs.declared.Timeslice.{Timeslice}
 use Rattle.rules.specs.State.{placeAt}
 use Rattle.rules.specs.Order.{topmost}
-use Rattle.rules.specs.Release.{inQueue, behind, onThread, stalled}
+use Rattle.rules.specs.Release.{inQueue, behind, onThread, stalled, isSpent}
 use Rattle.tables.specs.declared.order.Sought.{Sought}
 use Rattle.tables.specs.declared.order.Sought.the-variants.{Nothing, At}
 use Rattle.tables.specs.Timeslices.{sliceOf, placeOf}
@@ -20,6 +20,7 @@ setOf Queue = inQueue
 setOf (Behind t) = behind t
 setOf (On n) = onThread n
 setOf Stalled = stalled
+setOf Spent = isSpent
 
 -- what a search found
 abbrev pub soughtOf : Sought → Option ℕ
@@ -36,9 +37,11 @@ kindOf Queue = 0
 kindOf (Behind t) = 1
 kindOf (On n) = 2
 kindOf Stalled = 3
+kindOf Spent = 4
 
 abbrev pub numberOf : Place → ℕ
 numberOf Queue = 0
 numberOf (Behind t) = t
 numberOf (On n) = n
 numberOf Stalled = 0
+numberOf Spent = 0

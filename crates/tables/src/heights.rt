@@ -20,7 +20,7 @@ pub fn code(place: Place) -> u16
 {
     let k = kind(place);
     let n = number(place);
-    (k as u16) + 4 * (n as u16)
+    (k as u16) + 8 * (n as u16)
 }
 
 // Larger for a timeslice that stands higher: by its priority, and among equals by the earlier entry of the turn order. Never 0.

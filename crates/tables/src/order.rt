@@ -27,6 +27,7 @@ pub fn kind(place: Place) -> u8
         Place::Behind(_) => 1,
         Place::On(_) => 2,
         Place::Stalled => 3,
+        Place::Spent => 4,
     }
 }
 
@@ -38,6 +39,7 @@ pub fn number(place: Place) -> u8
         Place::Behind(t) => t,
         Place::On(n) => n,
         Place::Stalled => 0,
+        Place::Spent => 0,
     }
 }
 

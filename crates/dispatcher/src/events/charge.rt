@@ -1,9 +1,10 @@
-// Document 01, "Events" and "Refusals, operation by operation": Charge.
+// Document 01, "Events" and "Refusals, operation by operation", and document 02, [2]: Charge.
 ghost use mathlib.Core.Path.{_≡_};
 ghost use mathlib.Core.Bool.{true};
 ghost use Rattle.rules.specs.declared.Event.the-variants.{Charge};
-ghost use Prim.Native.Nat.{_<_};
+ghost use Prim.Native.Nat.{_≤_, _<_};
 ghost use Rattle.rules.specs.Events.{dispatch, settle, depletes};
+ghost use Rattle.rules.specs.State.{leftAt};
 ghost use Rattle.rules.specs.Tests.{member as memberOf};
 ghost use Rattle.dispatcher.specs.Choosing.{Choosable, Settled};
 ghost use Rattle.dispatcher.specs.Shown.{shown, soundMachine};
@@ -18,17 +19,20 @@ use tables::release::release;
 use tables::turns::to_back;
 
 impl Machine {
-    // The current timeslice is refilled and goes to the back, and its followers are released.
-    pub(crate) fn depleted(mut self, t: u8) -> Answered
+    // The current timeslice goes to the back and is Spent, and its followers are released.
+    pub(crate) fn depleted(mut self, t: u8, units: u16) -> Answered
         requires { ⌜ Choosable self 0 ⌝ }
         requires { ⌜ t < 128 ⌝ }
         requires { ⌜ memberOf t (shown self .order) ≡ true ⌝ }
-        ensures { λ r. ⌜ Settled (settle (depletes t (shown self))) r ⌝ }
+        requires { ⌜ units ≤ leftAt (shown self .slices) t ⌝ }
+        ensures { λ r. ⌜ Settled (settle (depletes t units (shown self))) r ⌝ }
     {
         let k = index(t);
         let x = self.timeslices[k];
+        let left = x.left - units;
         let y = Timeslice {
-            left: x.quantum,
+            left,
+            place: Place::Spent,
             ..x
         };
         self.timeslices[k] = y;
@@ -64,7 +68,7 @@ impl Machine {
                     return self.answered(11, 0);
                 }
                 if left == units {
-                    return self.depleted(t);
+                    return self.depleted(t, units);
                 }
                 let y = Timeslice {
                     left: left - units,

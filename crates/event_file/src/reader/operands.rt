@@ -107,7 +107,18 @@ fn abort(operands: &[u8]) -> Found
     })
 }
 
-// The kinds of document 01, one arm each.
+fn refill(operands: &[u8]) -> Found
+    ensures { λ r. ⌜ r ≡ foundOf (oneByte Event.Refill (now (operands .entry))) ⌝ }
+{
+    if operands.len() != 1 {
+        return Found::Bad;
+    }
+    Found::Record(Event::Refill {
+        timeslice: operands[0],
+    })
+}
+
+// The kinds of documents 01 and 02, one arm each.
 fn event_of(kind: u8, operands: &[u8]) -> Found
     ensures { λ r. ⌜ r ≡ foundOf (eventOf kind (now (operands .entry))) ⌝ }
 {
@@ -120,6 +131,7 @@ fn event_of(kind: u8, operands: &[u8]) -> Found
         6 => wake(operands),
         7 => charge(operands),
         8 => abort(operands),
+        9 => refill(operands),
         _ => Found::Bad,
     }
 }

@@ -40,6 +40,7 @@ fn operand_count(event: Event) -> usize
         Event::Wake { thread: _ } => 1,
         Event::Charge { units: _ } => 2,
         Event::Abort { thread: _ } => 1,
+        Event::Refill { timeslice: _ } => 1,
     }
 }
 
@@ -97,5 +98,6 @@ pub fn put_record(buffer: &mut [u8], at: usize, event: Event)
         Event::Wake { thread } => put3(buffer, at, 2, 6, thread),
         Event::Charge { units } => put_charge(buffer, at, units),
         Event::Abort { thread } => put3(buffer, at, 2, 8, thread),
+        Event::Refill { timeslice } => put3(buffer, at, 2, 9, timeslice),
     }
 }

@@ -5,6 +5,7 @@ use mathlib.Core.Bool.{Bool, true, false, _&&_, _||_}
 use native.Mathlib.Omega.{arith}
 use lib.Dec.{eqb}
 use borrow.Author.Tests.{eqb-true, eqb-false}
+use Rattle.rules.specs.Tests.{agree}
 
 -- a Bool with the equation that says which it is
 pub data Two (b : Bool) : Type 0 where
@@ -48,6 +49,10 @@ and-true-right false b e = clash false e refl
 pub and-true-both : (a b : Bool) → a ≡ true → b ≡ true → (a && b) ≡ true
 and-true-both a b p q = rw (p, q)
 
+pub and-false-right : (a b : Bool) → b ≡ false → (a && b) ≡ false
+and-false-right true b q = q
+and-false-right false b q = refl
+
 -- the parts of a conjunction
 pub and3 : (a b c : Bool) → (a && b && c) ≡ true → (a ≡ true) × (b ≡ true) × (c ≡ true)
 and3 a b c e =
@@ -90,3 +95,14 @@ or-false-right false b e = e
 
 pub or-false-both : (a b : Bool) → (a || b) ≡ false → (a ≡ false) × (b ≡ false)
 or-false-both a b e = (or-false-left a b e, or-false-right a b e)
+
+-- two tests agree if they are equal
+pub agree-is : (a b : Bool) → agree a b ≡ true → a ≡ b
+agree-is true true e = refl
+agree-is true false e = clash false e refl
+agree-is false true e = clash false e refl
+agree-is false false e = refl
+
+pub is-agree : (a b : Bool) → a ≡ b → agree a b ≡ true
+is-agree true b e = rw (← e)
+is-agree false b e = rw (← e)

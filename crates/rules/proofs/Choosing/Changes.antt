@@ -7,7 +7,7 @@ use mathlib.Core.Bool.{Bool, true, false}
 use native.Mathlib.Omega.{arith}
 use Rattle.rules.specs.declared.Hold.the-variants.{Ready, Calling}
 use Rattle.rules.specs.declared.Place.{Place}
-use Rattle.rules.specs.declared.Place.the-variants.{Queue, Behind, On, Stalled}
+use Rattle.rules.specs.declared.Place.the-variants.{Queue, Behind, On, Stalled, Spent}
 use Rattle.rules.specs.declared.Running.{Running}
 use Rattle.rules.specs.declared.Thread.{Thread}
 use Rattle.rules.specs.declared.Chain.{Chain}
@@ -74,6 +74,7 @@ pub record Change (at : Place → Bool) (s : State) (ts′ : List Thread) (r : �
   pub mid : Mid s
   pub update : Update (s .threads) ts′ r
   pub queue : at Queue ≡ false
+  pub spared : at Spent ≡ false
   pub on : (x m : ℕ) → Waits (s .threads) x m → OnKept at ts′ x m
   pub loops : StalledKept at (s .threads) r
 
@@ -99,6 +100,7 @@ module _ {at : Place → Bool} {s : State} {ts′ : List Thread} {r : ℕ} (c : 
   ready t (Behind q) e g = kept (rw e (record { listed = g .listed; queued = g .queued; above = g .above }))
   ready t (On m) e g = on-ready t m e (c .on (owner s t) m g)
   ready t Stalled e g = stalled-ready t e g (c .loops)
+  ready t Spent e g = kept (rw e tt)
 
   pub change-releasable : Releasable at (withThreads ts′ s)
   change-releasable =
@@ -106,6 +108,8 @@ module _ {at : Place → Bool} {s : State} {ts′ : List Thread} {r : ℕ} (c : 
         shape = shape;
         full = c .mid .placed .full;
         queue = c .queue;
+        spared = c .spared;
+        spent = c .mid .placed .spent;
         each = λ t h. ready t (placeAt (s .places) t) refl (c .mid .placed .good t h);
         free = c .mid .placed .free;
       }
@@ -130,6 +134,7 @@ good-running s n t Queue g = tt
 good-running s n t (Behind q) g = record { listed = g .listed; queued = g .queued; above = g .above }
 good-running s n t (On m) g = g
 good-running s n t Stalled g = g
+good-running s n t Spent g = tt
 
 pub mid-running : {s : State} (n : Running) → Mid s → Mid (withRunning n s)
 mid-running {s} n x =
@@ -139,6 +144,7 @@ mid-running {s} n x =
           record {
             full = x .placed .full;
             good = λ t h. good-running s n t (placeAt (s .places) t) (x .placed .good t h);
+            spent = x .placed .spent;
             free = x .placed .free;
           };
     }
@@ -149,6 +155,8 @@ releasable-running {at} {s} n x =
       shape = record { sane = x .shape .sane; turns = x .shape .turns };
       full = x .full;
       queue = x .queue;
+      spared = x .spared;
+      spent = x .spent;
       each = λ t h. by t (x .each t h);
       free = x .free;
     }
@@ -175,6 +183,7 @@ ready-change {s} {ts′} {n} x u h others =
       mid = x;
       update = u;
       queue = refl;
+      spared = refl;
       on = λ y m w. let o = not-ready w n h in stay-there u w (others m o) (avoids (s .threads) here o);
       loops = stay here;
     }

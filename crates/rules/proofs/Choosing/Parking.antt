@@ -1,25 +1,26 @@
 -- A timeslice is put aside: its followers are released, the plain machine sees nothing, and one timeslice less is left to look at.
 use Prim.Native.Nat.{ℕ, zero, suc, _<_, _≤_}
-use mathlib.Core.Path.{_≡_, refl, ap, _∙_}
+use mathlib.Core.Path.{_≡_, refl, sym, ap, _∙_}
 use mathlib.Core.List.{List, [], _∷_}
 use mathlib.Core.Bool.{Bool, true, false}
 use mathlib.Core.Option.{some}
 use native.Mathlib.Omega.{arith}
-use lib.ListN.{length, set, length-set}
+use lib.ListN.{length, set}
 use lib.Seq.{getD-set-same, getD-set-other}
+use borrow.Author.Tests.{eq-eqb}
 use Rattle.rules.specs.declared.Place.{Place}
-use Rattle.rules.specs.declared.Place.the-variants.{Queue, Behind, On, Stalled}
+use Rattle.rules.specs.declared.Place.the-variants.{Queue, Behind, On, Stalled, Spent}
 use Rattle.rules.specs.Tests.{member}
 use Rattle.rules.specs.State.{State, Plain, forget, freePlace, placeAt, withPlaces, oneMoreIf}
-use Rattle.rules.specs.Release.{inQueue, behind, topmostAt, release}
+use Rattle.rules.specs.Release.{isSpent, inQueue, behind, topmostAt, release}
 use Rattle.rules.specs.Choice.{park}
 use Rattle.rules.proofs.Basics.Views.{clash, Same, equal, different, same}
 use Rattle.rules.proofs.Basics.Members.{Listed, here, there, listed, not-listed, member-here, member-there}
 use Rattle.rules.proofs.Order.Orders.{Top}
 use Rattle.rules.proofs.Soundness.Places.{queue-is, Good, Mid}
-use Rattle.rules.proofs.Choosing.Releases.{Ready, selected, kept, Releasable, release-mid, forget-release, Moved, unmoved, chosen}
-use Rattle.rules.proofs.Choosing.Releases.{place-after}
+use Rattle.rules.proofs.Choosing.Releases.{Releasable, release-mid, forget-release, Moved, unmoved, chosen, place-after}
 use Rattle.rules.proofs.Choosing.Tops.{queue-top}
+use Rattle.rules.proofs.Choosing.Slices.{freed, retimed-releasable, unchanged}
 
 -- how many members of a list pass a test
 unfoldable pub howMany : (ℕ → Bool) → List ℕ → ℕ
@@ -70,12 +71,13 @@ howMany-fewer f g (x ∷ xs) i t h n y =
     by (here e) r less j = rw (← e, n, y) (omega arith)
     by (there k) r less j = strict (f x) (g x) (howMany f xs) (howMany g xs) j (r k)
 
--- in Queue or Behind: not put aside
+-- put aside by a look: On or Stalled
 abbrev pub unparked : Place → Bool
 unparked Queue = true
 unparked (Behind q) = true
 unparked (On n) = false
 unparked Stalled = false
+unparked Spent = true
 
 -- how many timeslices are not put aside
 abbrev pub unparkedIn : State → ℕ
@@ -93,25 +95,14 @@ module _ (s : State) (x : Mid s) (t : ℕ) (e : topmostAt inQueue s ≡ some t) 
   top : Top (s .slices) (λ u. inQueue (placeAt (s .places) u)) (s .order) t
   top = queue-top s t e
 
+  queued : placeAt (s .places) t ≡ Queue
+  queued = queue-is (placeAt (s .places) t) (top .taken)
+
   at-t : placeAt (set (s .places) t p) t ≡ p
   at-t = getD-set-same (s .places) t p freePlace (rw (x .placed .full) (x .shape .turns .small t (top .listed)))
 
   elsewhere : (u : ℕ) → (u ≡ t → ⊥) → placeAt (set (s .places) t p) u ≡ placeAt (s .places) u
   elsewhere u n = getD-set-other (s .places) t u p freePlace n
-
-  -- a follower of t is selected, everybody else keeps a good place
-  follower : (u : ℕ) → member u (s .order) ≡ true → (u ≡ t → ⊥) → (r : Place) → placeAt (s .places) u ≡ r → Good s u r
-      → Ready (behind t) set-aside u
-  unfolding set-aside
-  follower u h n Queue f g = kept (rw (elsewhere u n, f) tt)
-  follower u h n (Behind q) f g = by (same q t)
-    where
-      by : Same q t → Ready (behind t) set-aside u
-      by (equal z w) = selected (rw (elsewhere u n, f) w)
-      by (different o w) =
-          kept (rw (elsewhere u n, f) (record { listed = g .listed; queued = elsewhere q o ∙ g .queued; above = g .above }))
-  follower u h n (On m) f g = kept (rw (elsewhere u n, f) g)
-  follower u h n Stalled f g = kept (rw (elsewhere u n, f) g)
 
   good-aside : (r : Place) → unparked r ≡ false → Good s t r → Good set-aside t r
   unfolding set-aside
@@ -119,21 +110,21 @@ module _ (s : State) (x : Mid s) (t : ℕ) (e : topmostAt inQueue s ≡ some t) 
   good-aside (Behind q) a g = clash true refl a
   good-aside (On n) a g = g
   good-aside Stalled a g = g
+  good-aside Spent a g = tt
+
+  -- it was in Queue and is put aside: something is left of it
+  unspent : (r : Place) → unparked r ≡ false → isSpent r ≡ isSpent Queue
+  unspent Queue a = refl
+  unspent (Behind q) a = refl
+  unspent (On n) a = refl
+  unspent Stalled a = refl
+  unspent Spent a = clash true refl a
 
   releasable : Releasable (behind t) set-aside
   unfolding set-aside
   releasable =
-      record {
-        shape = x .shape;
-        full = length-set (s .places) t p ∙ x .placed .full;
-        queue = refl;
-        each = λ u h. by u h (same u t);
-        free = λ u n. elsewhere u (λ z. clash (member t (s .order)) (top .listed) (rw z at n)) ∙ x .placed .free u n;
-      }
-    where
-      by : (u : ℕ) → member u (s .order) ≡ true → Same u t → Ready (behind t) set-aside u
-      by u h (equal z _) = rw z (kept (rw at-t (good-aside p aside good)))
-      by u h (different n _) = follower u h n (placeAt (s .places) u) refl (x .placed .good u h)
+      retimed-releasable x (unchanged (x .shape .turns) t (top .listed)) p (good-aside p aside good)
+      (unspent p aside ∙ sym (ap isSpent queued) ∙ x .placed .spent t (top .listed)) (freed (eq-eqb t t refl)) refl refl
 
   pub park-mid : Mid (park t p s)
   unfolding park set-aside
@@ -149,13 +140,14 @@ module _ (s : State) (x : Mid s) (t : ℕ) (e : topmostAt inQueue s ≡ some t) 
   behind-unparked (Behind q) k = refl
   behind-unparked (On n) k = clash false k refl
   behind-unparked Stalled k = clash false k refl
+  behind-unparked Spent k = refl
 
   still : (u : ℕ) → member u (s .order) ≡ true → unparked (placeAt (park t p s .places) u) ≡ true → unparked (placeAt (s .places) u) ≡ true
   unfolding park set-aside
   still u h k = by (same u t) (place-after (behind t) set-aside releasable u h)
     where
       by : Same u t → Moved (behind t) set-aside u → unparked (placeAt (s .places) u) ≡ true
-      by (equal z _) m = ap unparked (ap (placeAt (s .places)) z ∙ queue-is (placeAt (s .places) t) (top .taken))
+      by (equal z _) m = ap unparked (ap (placeAt (s .places)) z ∙ queued)
       by (different n _) (unmoved f) = rw (← elsewhere u n, ← f) k
       by (different n _) (chosen f) = rw (← elsewhere u n) (behind-unparked (placeAt (set (s .places) t p) u) f)
 
@@ -168,6 +160,7 @@ module _ (s : State) (x : Mid s) (t : ℕ) (e : topmostAt inQueue s ≡ some t) 
       not-behind (Behind q) a k = clash true refl a
       not-behind (On n) a k = clash false k refl
       not-behind Stalled a k = clash false k refl
+      not-behind Spent a k = clash false k refl
 
       by : Moved (behind t) set-aside t → unparked (placeAt (release (behind t) set-aside .places) t) ≡ false
       by (unmoved f) = rw (f, at-t) aside
@@ -180,4 +173,4 @@ module _ (s : State) (x : Mid s) (t : ℕ) (e : topmostAt inQueue s ≡ some t) 
       rw same-order
       (howMany-fewer (λ u. unparked (placeAt (park t p s .places) u)) (λ u. unparked (placeAt (s .places) u)) (s .order) still t
       (top .listed)
-      gone (ap unparked (queue-is (placeAt (s .places) t) (top .taken))))
+      gone (ap unparked queued))

@@ -2,16 +2,17 @@
 use Prim.Native.Nat.{ℕ, _<_}
 use mathlib.Core.Path.{_≡_, refl, sym, ap, _∙_, subst}
 use mathlib.Core.List.{List, [], _∷_}
-use mathlib.Core.Bool.{Bool, true, false}
+use mathlib.Core.Bool.{Bool, true, false, cond}
 use mathlib.Core.Option.{Option, none, some}
 use lib.ListN.{length, set, length-set}
 use lib.Seq.{getD-set-same, getD-set-other}
+use lib.Dec.{eqb}
 use borrow.Author.Tests.{eq-eqb}
 use Rattle.rules.specs.declared.Place.{Place}
-use Rattle.rules.specs.declared.Place.the-variants.{Queue, Behind, On, Stalled}
+use Rattle.rules.specs.declared.Place.the-variants.{Queue, Behind, On, Stalled, Spent}
 use Rattle.rules.specs.Tests.{member, distinct}
-use Rattle.rules.specs.State.{State, forget, limit, freePlace, placeAt, withPlaces}
-use Rattle.rules.specs.Release.{inQueue, topmostAt, releasedPlace, releasedPlaces, releaseTo, release}
+use Rattle.rules.specs.State.{State, forget, limit, freePlace, leftAt, placeAt, withPlaces}
+use Rattle.rules.specs.Release.{isSpent, inQueue, topmostAt, releasedPlace, releasedPlaces, releaseTo, release}
 use Rattle.rules.proofs.Basics.Views.{Two, yes-true, no-false, two, clash, is-false, Same, equal, different, same}
 use Rattle.rules.proofs.Basics.Members.{Listed, here, there, listed, not-listed, member-here, member-there, distinct-head}
 use Rattle.rules.proofs.Basics.Members.{distinct-tail}
@@ -64,6 +65,19 @@ released-at at q (t ∷ ts) ps d small u h =
     (λ w k. rw (length-set ps t v) (small w (member-there w t ts k))) u)
     (listed u t ts h)
 
+-- no release touches a Spent timeslice, and none makes one
+moved-unspent : (taken top : Bool) (q : ℕ) (p : Place) → isSpent p ≡ false → isSpent (cond taken (cond top Queue (Behind q)) p) ≡ false
+moved-unspent true true q p e = refl
+moved-unspent true false q p e = refl
+moved-unspent false top q p e = e
+
+spent-kept : (at : Place → Bool) → at Spent ≡ false → (q t : ℕ) (p : Place) → isSpent (releasedPlace at q t p) ≡ isSpent p
+spent-kept at n q t Queue = moved-unspent (at Queue) (eqb t q) q Queue refl
+spent-kept at n q t (Behind r) = moved-unspent (at (Behind r)) (eqb t q) q (Behind r) refl
+spent-kept at n q t (On m) = moved-unspent (at (On m)) (eqb t q) q (On m) refl
+spent-kept at n q t Stalled = moved-unspent (at Stalled) (eqb t q) q Stalled refl
+spent-kept at n q t Spent = rw n
+
 -- the two answers of a release
 pub data Released (at : Place → Bool) (s : State) : Type 0 where
   nobody : topmostAt at s ≡ none → release at s ≡ s → Released at s
@@ -95,7 +109,9 @@ pub record Releasable (at : Place → Bool) (s : State) : Type 0 where
   pub shape : Shape (forget s)
   pub full : length (s .places) ≡ limit
   pub queue : at Queue ≡ false
+  pub spared : at Spent ≡ false
   pub each : (t : ℕ) → member t (s .order) ≡ true → Ready at s t
+  pub spent : (t : ℕ) → member t (s .order) ≡ true → isSpent (placeAt (s .places) t) ≡ eqb (leftAt (s .slices) t) 0
   pub free : (t : ℕ) → member t (s .order) ≡ false → placeAt (s .places) t ≡ Queue
 
 -- the places that a release leaves, when one joins Queue
@@ -131,6 +147,7 @@ module _ (at : Place → Bool) (s : State) (x : Releasable at s) (q : ℕ)
   kept-good t (Behind r) g = record { listed = g .listed; queued = queued r (g .listed) (g .queued); above = g .above }
   kept-good t (On n) g = g
   kept-good t Stalled g = g
+  kept-good t Spent g = tt
 
   ready-good : (t : ℕ) → member t (s .order) ≡ true → Ready at s t → Two (at (placeAt (s .places) t))
       → Good after t (releasedPlace at q t (placeAt (s .places) t))
@@ -146,12 +163,13 @@ module _ (at : Place → Bool) (s : State) (x : Releasable at s) (q : ℕ)
         good =
             λ t h. subst (λ (p : Place). Good after t p) (sym (moved t h))
             (ready-good t h (x .each t h) (two (at (placeAt (s .places) t))));
+        spent = λ t h. ap isSpent (moved t h) ∙ spent-kept at (x .spared) q t (placeAt (s .places) t) ∙ x .spent t h;
         free = λ t n. not-released at q (s .order) (s .places) t n ∙ x .free t n;
       }
 
 -- where nobody is selected, everybody was well placed already
 pub none-placed : (at : Place → Bool) (s : State) → Releasable at s → topmostAt at s ≡ none → Placed s
-none-placed at s x e = record { full = x .full; good = λ t h. by t h (x .each t h); free = x .free }
+none-placed at s x e = record { full = x .full; good = λ t h. by t h (x .each t h); spent = x .spent; free = x .free }
   where
     by : (t : ℕ) → member t (s .order) ≡ true → Ready at s t → Good s t (placeAt (s .places) t)
     by t h (selected k) =

@@ -8,7 +8,7 @@ use native.Mathlib.Omega.{arith}
 use borrow.Author.Tests.{eqb-true}
 use Rattle.rules.specs.declared.Hold.the-variants.{Ready, Idle, Calling, Helping}
 use Rattle.rules.specs.declared.Place.{Place}
-use Rattle.rules.specs.declared.Place.the-variants.{Queue, Behind, On, Stalled}
+use Rattle.rules.specs.declared.Place.the-variants.{Queue, Behind, On, Stalled, Spent}
 use Rattle.rules.specs.declared.Thread.{Thread}
 use Rattle.rules.specs.declared.Chain.{Chain}
 use Rattle.rules.specs.State.{State, Plain, forget, holdAt, liveThreads, placeAt, withThreads}
@@ -81,6 +81,7 @@ module _ (s : State) (x : Mid s) (t : ℕ) (e : topmostAt inQueue s ≡ some t) 
         mid = x;
         update = pair .update;
         queue = refl;
+        spared = refl;
         on = λ y m w. by y m w (same m n);
         loops = stay helper-ends;
       }
@@ -130,6 +131,7 @@ module _ (s : State) (x : Mid s) (t : ℕ) (e : topmostAt inQueue s ≡ some t) 
   on-is (Behind q) k = clash false k refl
   on-is (On m) k = ap On (eqb-true m n k)
   on-is Stalled k = clash false k refl
+  on-is Spent k = clash false k refl
 
   joined-runs : (q : ℕ) → topmostAt (onThread n) (withThreads ts′ s) ≡ some q → RunsAt ts′ (owner s q) n 0
   joined-runs q j = by (subst (λ (p : Place). Good s q p) (on-is (placeAt (s .places) q) (top .taken)) (x .placed .good q (top .listed)))

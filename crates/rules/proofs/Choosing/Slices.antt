@@ -1,18 +1,22 @@
--- A change of one timeslice, in the table and in the turn order, leaves every timeslice well placed or released.
--- Give and Charge are such changes: they have to show what holds of that timeslice now, and what becomes of its followers.
+-- A change of one timeslice, in the table, in the turn order and of its place, leaves every timeslice well placed or released.
+-- Give, Charge, Refill and a look that puts one aside are such changes: they have to show what holds of that timeslice now, and what
+-- becomes of its followers.
 use Prim.Native.Nat.{ℕ, _<_}
 use mathlib.Core.Path.{_≡_, refl, sym, ap, _∙_, subst}
 use mathlib.Core.List.{List}
 use mathlib.Core.Bool.{Bool, true, false}
 use mathlib.Core.Option.{some}
-use lib.ListN.{length}
+use lib.ListN.{length, set, length-set}
+use lib.Seq.{getD-set-same, getD-set-other, set-getD}
+use lib.Dec.{eqb}
 use Rattle.rules.specs.declared.Thread.{Thread}
 use Rattle.rules.specs.declared.Place.{Place}
-use Rattle.rules.specs.declared.Place.the-variants.{Queue, Behind, On, Stalled}
+use Rattle.rules.specs.declared.Place.the-variants.{Queue, Behind, On, Stalled, Spent}
 use Rattle.rules.specs.Tests.{member, distinct}
-use Rattle.rules.specs.State.{Slice, State, limit, liveAt, sliceAt, ownerAt, priorityAt, placeAt, withTimeslices}
+use Rattle.rules.specs.State.{Slice, State, limit, freePlace, liveAt, sliceAt, ownerAt, priorityAt, leftAt, placeAt}
+use Rattle.rules.specs.State.{withPlaces, withTimeslices}
 use Rattle.rules.specs.Order.{standsAbove}
-use Rattle.rules.specs.Release.{inQueue, topmostAt}
+use Rattle.rules.specs.Release.{isSpent, inQueue, topmostAt}
 use Rattle.rules.specs.Sound.{inRange}
 use Rattle.rules.proofs.Basics.Views.{clash, Same, equal, different, same}
 use Rattle.rules.proofs.Order.Orders.{above-same, above-total, is-none, is-top}
@@ -89,71 +93,116 @@ module _ {ts : List Thread} {ss ss′ : List Slice} {order order′ : List ℕ} 
         free = λ u h. let z = unlisted u h in r .others u (z .0) ∙ x .free u (z .1);
       }
 
--- what happens to the followers of t: they are released, or t still stands above them
-pub data Followers (at : Place → Bool) (s : State) (ss′ : List Slice) (order′ : List ℕ) (t : ℕ) : Type 0 where
-  freed : at (Behind t) ≡ true → Followers at s ss′ order′ t
-  stay : ((u : ℕ) → Led s u t → standsAbove ss′ order′ t u ≡ true) → Followers at s ss′ order′ t
+-- the machine with this table and turn order, and timeslice t at this place
+abbrev pub retimed : List Slice → List ℕ → ℕ → Place → State → State
+retimed ss order t p s = withPlaces (set (s .places) t p) (withTimeslices ss order s)
+
+-- what happens to the followers of t: they are released, or t is in Queue and still stands above them
+pub data Followers (at : Place → Bool) (s : State) (ss′ : List Slice) (order′ : List ℕ) (t : ℕ) (p : Place) : Type 0 where
+  freed : at (Behind t) ≡ true → Followers at s ss′ order′ t p
+  stay : p ≡ Queue → ((u : ℕ) → Led s u t → standsAbove ss′ order′ t u ≡ true) → Followers at s ss′ order′ t p
 
 module _ {at : Place → Bool} {s : State} {ss′ : List Slice} {order′ : List ℕ} {t : ℕ}
-    (x : Mid s) (r : Retimed (s .threads) (s .slices) ss′ (s .order) order′ t) (queued : placeAt (s .places) t ≡ Queue)
-    (f : Followers at s ss′ order′ t) where
+    (x : Mid s) (r : Retimed (s .threads) (s .slices) ss′ (s .order) order′ t) (p : Place)
+    (good : Good (retimed ss′ order′ t p s) t p) (spent : isSpent p ≡ eqb (leftAt ss′ t) 0)
+    (f : Followers at s ss′ order′ t p) where
+  place-now : placeAt (set (s .places) t p) t ≡ p
+  place-now = getD-set-same (s .places) t p freePlace (rw (x .placed .full) (r .small))
+
+  elsewhere : (u : ℕ) → (u ≡ t → ⊥) → placeAt (set (s .places) t p) u ≡ placeAt (s .places) u
+  elsewhere u n = getD-set-other (s .places) t u p freePlace n
+
   -- a follower of t
-  follower : (u : ℕ) → placeAt (s .places) u ≡ Behind t → Led s u t → Followers at s ss′ order′ t
-      → Ready at (withTimeslices ss′ order′ s) u
-  follower u e g (freed k) = selected (rw e k)
-  follower u e g (stay a) = kept (rw e (record { listed = r .now; queued = queued; above = a u g }))
+  follower : (u : ℕ) → (u ≡ t → ⊥) → placeAt (s .places) u ≡ Behind t → Led s u t → Followers at s ss′ order′ t p
+      → Ready at (retimed ss′ order′ t p s) u
+  follower u n e g (freed k) = selected (rw (elsewhere u n, e) k)
+  follower u n e g (stay q a) = kept (rw (elsewhere u n, e) (record { listed = r .now; queued = place-now ∙ q; above = a u g }))
 
   -- a follower of another
-  behind-other : (u q : ℕ) → (u ≡ t → ⊥) → (q ≡ t → ⊥) → Led s u q → Led (withTimeslices ss′ order′ s) u q
+  behind-other : (u q : ℕ) → (u ≡ t → ⊥) → (q ≡ t → ⊥) → Led s u q → Led (retimed ss′ order′ t p s) u q
   behind-other u q nu nq g =
-      record { listed = r .listed q nq ∙ g .listed; queued = g .queued; above = above-kept r q u nq nu ∙ g .above }
+      record { listed = r .listed q nq ∙ g .listed; queued = elsewhere q nq ∙ g .queued; above = above-kept r q u nq nu ∙ g .above }
 
-  -- everybody other than t is released or well placed, and t is in Queue
-  ready : (u : ℕ) → (u ≡ t → ⊥) → (p : Place) → placeAt (s .places) u ≡ p → Good s u p → Ready at (withTimeslices ss′ order′ s) u
-  ready u n Queue e g = kept (rw e tt)
+  -- everybody other than t is released or well placed
+  ready : (u : ℕ) → (u ≡ t → ⊥) → (o : Place) → placeAt (s .places) u ≡ o → Good s u o → Ready at (retimed ss′ order′ t p s) u
+  ready u n Queue e g = kept (rw (elsewhere u n, e) tt)
   ready u n (Behind q) e g = by (same q t)
     where
-      by : Same q t → Ready at (withTimeslices ss′ order′ s) u
-      by (equal z _) = follower u (e ∙ ap Behind z) (subst (λ (k : ℕ). Led s u k) z g) f
-      by (different d _) = kept (rw e (behind-other u q n d g))
-  ready u n (On m) e g = kept (rw e (subst (λ (k : ℕ). Waits (s .threads) k m) (sym (owner-kept r u n)) g))
-  ready u n Stalled e g = kept (rw e (subst (λ (k : ℕ). Stalls (s .threads) k) (sym (owner-kept r u n)) g))
+      by : Same q t → Ready at (retimed ss′ order′ t p s) u
+      by (equal z _) = follower u n (e ∙ ap Behind z) (subst (λ (k : ℕ). Led s u k) z g) f
+      by (different d _) = kept (rw (elsewhere u n, e) (behind-other u q n d g))
+  ready u n (On m) e g =
+      kept (rw (elsewhere u n, e) (subst (λ (k : ℕ). Waits (s .threads) k m) (sym (owner-kept r u n)) g))
+  ready u n Stalled e g =
+      kept (rw (elsewhere u n, e) (subst (λ (k : ℕ). Stalls (s .threads) k) (sym (owner-kept r u n)) g))
+  ready u n Spent e g = kept (rw (elsewhere u n, e) tt)
 
-  pub retimed-releasable : at Queue ≡ false → Releasable at (withTimeslices ss′ order′ s)
-  retimed-releasable q =
+  pub retimed-releasable : at Queue ≡ false → at Spent ≡ false → Releasable at (retimed ss′ order′ t p s)
+  retimed-releasable q z =
       record {
         shape = record { sane = x .shape .sane; turns = retimed-turns r (x .shape .turns) };
-        full = x .placed .full;
+        full = length-set (s .places) t p ∙ x .placed .full;
         queue = q;
+        spared = z;
         each =
-            each-now r (λ u. Ready at (withTimeslices ss′ order′ s) u) (kept (rw queued tt))
+            each-now r (λ u. Ready at (retimed ss′ order′ t p s) u) (kept (rw place-now good))
             (λ u n h. ready u n (placeAt (s .places) u) refl (x .placed .good u h));
-        free = λ u h. x .placed .free u (unlisted r u h .1);
+        spent =
+            each-now r (λ u. isSpent (placeAt (set (s .places) t p) u) ≡ eqb (leftAt ss′ u) 0) (ap isSpent place-now ∙ spent)
+            (λ u n h. ap isSpent (elsewhere u n) ∙ x .placed .spent u h
+            ∙ sym (ap (λ (y : Slice). eqb (y .left) 0) (r .others u n)));
+        free = λ u h. let z = unlisted r u h in elsewhere u (z .0) ∙ x .placed .free u (z .1);
       }
 
 -- where nobody has to be released, the machine is midway as it stands
 pub retimed-mid : {s : State} {ss′ : List Slice} {order′ : List ℕ} {t : ℕ} → Mid s
-    → Retimed (s .threads) (s .slices) ss′ (s .order) order′ t → placeAt (s .places) t ≡ Queue → Followers nowhere s ss′ order′ t
-    → Mid (withTimeslices ss′ order′ s)
-retimed-mid {s} {ss′} {order′} x r q f =
-    let y = retimed-releasable x r q f refl in
+    → Retimed (s .threads) (s .slices) ss′ (s .order) order′ t → (p : Place) → Good (retimed ss′ order′ t p s) t p
+    → isSpent p ≡ eqb (leftAt ss′ t) 0 → Followers nowhere s ss′ order′ t p → Mid (retimed ss′ order′ t p s)
+retimed-mid {s} {ss′} {order′} {t} x r p good spent f =
+    let y = retimed-releasable x r p good spent f refl refl in
     record {
       shape = y .shape;
-      placed = none-placed nowhere (withTimeslices ss′ order′ s) y (is-none ss′ (λ t. false) order′ (λ u h. refl));
+      placed = none-placed nowhere (retimed ss′ order′ t p s) y (is-none ss′ (λ t. false) order′ (λ u h. refl));
     }
 
+-- a place that stays is no change
+pub stays-put : (s : State) (ss′ : List Slice) (order′ : List ℕ) (t : ℕ) (p : Place) → placeAt (s .places) t ≡ p
+    → retimed ss′ order′ t p s ≡ withTimeslices ss′ order′ s
+stays-put s ss′ order′ t p e =
+    let places : set (s .places) t p ≡ s .places = rw (← e) (set-getD (s .places) t freePlace) in
+    ap (λ (ps : List Place). withPlaces ps (withTimeslices ss′ order′ s)) places
+
 -- a topmost in Queue that t does not overtake is still the topmost
-pub retimed-top : (s : State) {ss′ : List Slice} {order′ : List ℕ} {t c : ℕ}
+pub retimed-top : (s : State) {ss′ : List Slice} {order′ : List ℕ} {t c : ℕ} (p : Place)
     → Retimed (s .threads) (s .slices) ss′ (s .order) order′ t → (c ≡ t → ⊥) → topmostAt inQueue s ≡ some c
-    → standsAbove ss′ order′ t c ≡ false → topmostAt inQueue (withTimeslices ss′ order′ s) ≡ some c
-retimed-top s {ss′} {order′} {t} {c} r other e under =
+    → standsAbove ss′ order′ t c ≡ false → topmostAt inQueue (retimed ss′ order′ t p s) ≡ some c
+retimed-top s {ss′} {order′} {t} {c} p r other e under =
     let top = queue-top s c e in
-    is-top ss′ (λ u. inQueue (placeAt (s .places) u)) order′ c
+    let elsewhere : (u : ℕ) → (u ≡ t → ⊥) → placeAt (set (s .places) t p) u ≡ placeAt (s .places) u =
+    λ u n. getD-set-other (s .places) t u p freePlace n in
+    is-top ss′ (λ u. inQueue (placeAt (set (s .places) t p) u)) order′ c
     (record {
       listed = r .listed c other ∙ top .listed;
-      taken = top .taken;
+      taken = ap inQueue (elsewhere c other) ∙ top .taken;
       above =
-          each-now r (λ u. inQueue (placeAt (s .places) u) ≡ true → (u ≡ c → ⊥) → standsAbove ss′ order′ c u ≡ true)
+          each-now r (λ u. inQueue (placeAt (set (s .places) t p) u) ≡ true → (u ≡ c → ⊥) → standsAbove ss′ order′ c u ≡ true)
           (λ q d. above-total ss′ order′ t c (r .now) d under)
-          (λ u n h q d. above-kept r c u other n ∙ top .above u h q d);
+          (λ u n h q d. above-kept r c u other n ∙ top .above u h (sym (ap inQueue (elsewhere u n)) ∙ q) d);
     })
+
+-- table and turn order may stay
+pub unchanged : {ts : List Thread} {ss : List Slice} {order : List ℕ} → Turns ts ss order → (t : ℕ) → member t order ≡ true
+    → Retimed ts ss ss order order t
+unchanged x t h =
+    record {
+      full = refl;
+      once = x .once;
+      small = x .small t h;
+      now = h;
+      range = x .range t h;
+      live = x .owner t h;
+      own = λ u k n e. n (x .owners u t k h e);
+      listed = λ u n. refl;
+      others = λ u n. refl;
+      above = λ a b na nb. refl;
+    }

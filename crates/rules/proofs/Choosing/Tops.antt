@@ -1,17 +1,18 @@
 -- The top lemma: in a machine midway, whoever stands above the topmost in Queue is put aside, and may not run.
 use Prim.Native.Nat.{ℕ}
-use mathlib.Core.Path.{_≡_, refl, ap, _∙_, subst}
-use mathlib.Core.Bool.{Bool, true, false}
+use mathlib.Core.Path.{_≡_, refl, sym, ap, _∙_, subst}
+use mathlib.Core.Bool.{Bool, true, false, not, _&&_}
 use mathlib.Core.Option.{none, some}
+use lib.Dec.{eqb}
 use Rattle.rules.specs.declared.Place.{Place}
-use Rattle.rules.specs.declared.Place.the-variants.{Queue, Behind, On, Stalled}
+use Rattle.rules.specs.declared.Place.the-variants.{Queue, Behind, On, Stalled, Spent}
 use Rattle.rules.specs.Tests.{member}
-use Rattle.rules.specs.State.{State, forget, placeAt}
+use Rattle.rules.specs.State.{State, forget, leftAt, placeAt}
 use Rattle.rules.specs.Order.{standsAbove, topmost}
-use Rattle.rules.specs.Walk.{lets, mayRun}
-use Rattle.rules.specs.Release.{inQueue, topmostAt, release}
+use Rattle.rules.specs.Walk.{Verdict, chainOf, verdict, lets, hasTime, mayRun}
+use Rattle.rules.specs.Release.{isSpent, inQueue, topmostAt, release}
 use Rattle.rules.specs.Plain.{topmostRunnable}
-use Rattle.rules.proofs.Basics.Views.{clash, Same, equal, different, same}
+use Rattle.rules.proofs.Basics.Views.{clash, Same, equal, different, same, and-true-both, and-false-right}
 use Rattle.rules.proofs.Order.Orders.{Top, top-some, top-none, is-top, is-none, above-trans}
 use Rattle.rules.proofs.Soundness.Standings.{Waits, Stalls, waits-walk, stalls-walk}
 use Rattle.rules.proofs.Soundness.Places.{queue-is, owner, owner-live, Good, Mid}
@@ -30,10 +31,22 @@ is-queued e = ap inQueue e
 -- a timeslice put aside may not run
 waits-idle : (s : State) → Mid s → (u n : ℕ) → member u (s .order) ≡ true → Waits (s .threads) (owner s u) n
     → mayRun (s .threads) (s .slices) u ≡ false
-waits-idle s x u n h w = ap lets (waits-walk (x .shape .sane) (owner-live s (x .shape) u h) w .0)
+waits-idle s x u n h w =
+    ap (λ (v : Verdict). lets v && hasTime (s .slices) u) (waits-walk (x .shape .sane) (owner-live s (x .shape) u h) w .0)
 
 stalls-idle : (s : State) (u : ℕ) → Stalls (s .threads) (owner s u) → mayRun (s .threads) (s .slices) u ≡ false
-stalls-idle s u never = ap lets (stalls-walk (s .threads) (owner s u) never)
+stalls-idle s u never = ap (λ (v : Verdict). lets v && hasTime (s .slices) u) (stalls-walk (s .threads) (owner s u) never)
+
+-- nothing is left of a Spent one, and something of every other
+spent-idle : (s : State) → Mid s → (u : ℕ) → member u (s .order) ≡ true → placeAt (s .places) u ≡ Spent
+    → mayRun (s .threads) (s .slices) u ≡ false
+spent-idle s x u h e =
+    let none-left : eqb (leftAt (s .slices) u) 0 ≡ true = sym (x .placed .spent u h) ∙ ap isSpent e in
+    and-false-right (lets (verdict (s .threads) (chainOf (s .threads) (s .slices) u))) (hasTime (s .slices) u) (ap not none-left)
+
+pub queued-time : (s : State) → Mid s → (t : ℕ) → member t (s .order) ≡ true → placeAt (s .places) t ≡ Queue
+    → hasTime (s .slices) t ≡ true
+queued-time s x t h e = ap not (sym (x .placed .spent t h) ∙ ap isSpent e)
 
 -- who may run is not above the topmost in Queue
 below-top : (s : State) → Mid s → (t : ℕ) → Top (s .slices) (λ v. inQueue (placeAt (s .places) v)) (s .order) t
@@ -49,16 +62,19 @@ below-top s x t top u h m n (Behind q) e g = by (same q t)
         above-trans (s .slices) (s .order) t q u (top .above q (g .listed) (is-queued (g .queued)) o) (g .above)
 below-top s x t top u h m n (On k) e g = clash (mayRun (s .threads) (s .slices) u) m (waits-idle s x u k h g)
 below-top s x t top u h m n Stalled e g = clash (mayRun (s .threads) (s .slices) u) m (stalls-idle s u g)
+below-top s x t top u h m n Spent e g = clash (mayRun (s .threads) (s .slices) u) m (spent-idle s x u h e)
 
--- so if the topmost in Queue may run, it is the plain machine's topmost that may
-pub top-runs : (s : State) → Mid s → (t : ℕ) → topmostAt inQueue s ≡ some t → mayRun (s .threads) (s .slices) t ≡ true
-    → topmostRunnable (forget s) ≡ some t
+-- so if the chain of the topmost in Queue lets it run, it is the plain machine's topmost that may
+pub top-runs : (s : State) → Mid s → (t : ℕ) → topmostAt inQueue s ≡ some t
+    → lets (verdict (s .threads) (chainOf (s .threads) (s .slices) t)) ≡ true → topmostRunnable (forget s) ≡ some t
 top-runs s x t e m =
     let top = queue-top s t e in
     is-top (s .slices) (λ u. mayRun (s .threads) (s .slices) u) (s .order) t
     (record {
       listed = top .listed;
-      taken = m;
+      taken =
+          and-true-both (lets (verdict (s .threads) (chainOf (s .threads) (s .slices) t))) (hasTime (s .slices) t) m
+          (queued-time s x t (top .listed) (queue-is (placeAt (s .places) t) (top .taken)));
       above = λ u h k n. below-top s x t top u h k n (placeAt (s .places) u) refl (x .placed .good u h);
     })
 
@@ -70,6 +86,7 @@ idle-place s x empty u h Queue e g = clash (inQueue (placeAt (s .places) u)) (is
 idle-place s x empty u h (Behind q) e g = clash (inQueue (placeAt (s .places) q)) (is-queued (g .queued)) (empty q (g .listed))
 idle-place s x empty u h (On n) e g = waits-idle s x u n h g
 idle-place s x empty u h Stalled e g = stalls-idle s u g
+idle-place s x empty u h Spent e g = spent-idle s x u h e
 
 pub none-runs : (s : State) → Mid s → topmostAt inQueue s ≡ none → topmostRunnable (forget s) ≡ none
 none-runs s x e =

@@ -56,7 +56,7 @@ module _ (s : State) (x : Sound s) (n : ℕ) (live : liveAt (s .threads) n ≡ t
   -- the links from n end at a Blocked thread
   at-blocked : (m : ℕ) {d : Chain} → Ends (linkAt ts) n noLinks m d → Change (onThread m) s ts′ n
   at-blocked m p =
-      record { mid = x .mid; update = u .update; queue = refl; on = λ y k w. by y k w (same k m); loops = stay p }
+      record { mid = x .mid; update = u .update; queue = refl; spared = refl; on = λ y k w. by y k w (same k m); loops = stay p }
     where
       by : (y k : ℕ) → Waits ts y k → Same k m → OnKept (onThread m) ts′ y k
       by y k w (equal e f) = freed f
@@ -65,7 +65,7 @@ module _ (s : State) (x : Sound s) (n : ℕ) (live : liveAt (s .threads) n ≡ t
   -- they end elsewhere: an Idle end has nothing On it but its own timeslice, which has no link
   at-unblocked : (m : ℕ) {d : Chain} → Ends (linkAt ts) n noLinks m d → isBlocked (holdAt ts m) ≡ false → Change nowhere s ts′ n
   at-unblocked m p f =
-      record { mid = x .mid; update = u .update; queue = refl; on = by; loops = stay p }
+      record { mid = x .mid; update = u .update; queue = refl; spared = refl; on = by; loops = stay p }
     where
       by : (y k : ℕ) → Waits ts y k → OnKept nowhere ts′ y k
       by y k (blocked q b) =
@@ -80,6 +80,7 @@ module _ (s : State) (x : Sound s) (n : ℕ) (live : liveAt (s .threads) n ≡ t
         mid = x .mid;
         update = u .update;
         queue = refl;
+        spared = refl;
         on = λ y k w. stay-there (u .update) w (u .others k (other y k w)) (nowhere-ends k);
         loops = freed refl;
       }

@@ -67,7 +67,7 @@ module _ (s : State) (x : Sound s) (caller t count : ℕ) (a : Active s caller t
 
     change : Change (onThread server) s ts′ caller
     change =
-        record { mid = x .mid; update = pair .update; queue = refl; on = λ y m w. by m w (same m server); loops = stay here }
+        record { mid = x .mid; update = pair .update; queue = refl; spared = refl; on = λ y m w. by m w (same m server); loops = stay here }
       where
         by : {y : ℕ} (m : ℕ) → Waits (s .threads) y m → Same m server → OnKept (onThread server) ts′ y m
         by m w (equal e f) = freed f

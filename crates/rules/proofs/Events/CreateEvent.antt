@@ -10,7 +10,7 @@ use Rattle.rules.specs.declared.Hold.{Hold}
 use Rattle.rules.specs.declared.Hold.the-variants.{Ready, Idle, Blocked}
 use Rattle.rules.specs.declared.Thread.{Thread}
 use Rattle.rules.specs.declared.Place.{Place}
-use Rattle.rules.specs.declared.Place.the-variants.{Queue, Behind, On, Stalled}
+use Rattle.rules.specs.declared.Place.the-variants.{Queue, Behind, On, Stalled, Spent}
 use Rattle.rules.specs.declared.Chain.{Chain}
 use Rattle.rules.specs.declared.Event.the-variants.{Create}
 use Rattle.rules.specs.State.{State, forget, limit, holdAt, liveAt, placeAt, withThreads}
@@ -76,6 +76,7 @@ module _ {s : State} {ts′ : List Thread} {n : ℕ}
   good-kept t (Behind q) g = record { listed = g .listed; queued = g .queued; above = g .above }
   good-kept t (On m) g = waits-kept (x .mid .shape .sane) free u g
   good-kept t Stalled g = stalls-kept (x .mid .shape .sane) free u (owner s t) g
+  good-kept t Spent g = tt
 
   mid-kept : Mid (withThreads ts′ s)
   mid-kept =
@@ -85,6 +86,7 @@ module _ {s : State} {ts′ : List Thread} {n : ℕ}
             record {
               full = x .mid .placed .full;
               good = λ t h. good-kept t (placeAt (s .places) t) (x .mid .placed .good t h);
+              spent = x .mid .placed .spent;
               free = x .mid .placed .free;
             };
       }

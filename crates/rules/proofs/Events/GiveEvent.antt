@@ -1,36 +1,28 @@
 -- Give: a new timeslice, last in turn order and in Queue. Nobody stands Behind it, and the others stand as they stood.
-use Prim.Native.Nat.{ℕ, _<_, _≤_, _+_, _*_}
-use mathlib.Core.Path.{_≡_, refl, sym, ap, _∙_, subst}
-use mathlib.Core.List.{List}
+use Prim.Native.Nat.{ℕ, _<_, _≤_}
+use mathlib.Core.Path.{_≡_, ap, _∙_}
 use mathlib.Core.Bool.{true, false, not, _||_}
-use mathlib.Core.Option.{some}
 use native.Mathlib.Omega.{arith}
-use native.Mathlib.Nat.{mul-le-mul-left}
-use lib.ListN.{length, length-set, set}
-use lib.Seq.{getD-set-same, getD-set-other, set-getD}
+use lib.ListN.{length-set}
+use lib.Seq.{getD-set-same, getD-set-other}
 use lib.Dec.{eqb}
 use borrow.Author.Tests.{ltb-false, le-leb, eqb-false, not-false}
-use Rattle.rules.specs.declared.Place.{Place}
-use Rattle.rules.specs.declared.Place.the-variants.{Queue}
-use Rattle.rules.specs.declared.Running.{Running}
-use Rattle.rules.specs.declared.Running.the-variants.{Nothing, Runs}
 use Rattle.rules.specs.declared.Event.the-variants.{Give}
 use Rattle.rules.specs.Tests.{member}
-use Rattle.rules.specs.State.{Slice, State, forget, limit, freeSlice, freePlace, liveAt, sliceAt, ownerAt, placeAt}
-use Rattle.rules.specs.State.{liveThreads, withPlaces, withTimeslices}
+use Rattle.rules.specs.State.{Slice, State, forget, limit, freeSlice, liveAt, sliceAt, ownerAt, leftAt}
 use Rattle.rules.specs.Timeslices.{given, last}
 use Rattle.rules.specs.Sound.{inRange}
 use Rattle.rules.specs.Refusals.{refusal, aboveLimit, ownsOne}
-use Rattle.rules.specs.Events.{aboveRunning, overtakes, withGiven, give}
+use Rattle.rules.specs.Events.{withGiven, give}
 use Rattle.rules.specs.Plain.{update}
 use Rattle.rules.proofs.Basics.Views.{clash, or-false-left}
 use Rattle.rules.proofs.Basics.Members.{some-none}
 use Rattle.rules.proofs.Order.Orders.{above-last, member-last, member-last-other, distinct-last, length-last}
-use Rattle.rules.proofs.Soundness.Standings.{RunsAt}
-use Rattle.rules.proofs.Soundness.Places.{Settled, runs-on, Sound}
+use Rattle.rules.proofs.Soundness.Places.{Sound}
 use Rattle.rules.proofs.Basics.Accepting.{passes}
-use Rattle.rules.proofs.Choosing.Slices.{Retimed, owner-kept, stay, retimed-mid, retimed-top}
-use Rattle.rules.proofs.Events.Hands.{Handed, active, linkLimit}
+use Rattle.rules.proofs.Choosing.Slices.{Retimed}
+use Rattle.rules.proofs.Events.Hands.{Handed}
+use Rattle.rules.proofs.Events.Joining.{joins-handed}
 
 -- the record of a new timeslice: "left = quantum"
 abbrev newSlice : ℕ → ℕ → ℕ → Slice
@@ -81,7 +73,7 @@ module _ {s : State} (x : Sound s) {t n priority quantum : ℕ} (f : Fresh s t n
   given-range =
       let all : quantum ≤ quantum = omega arith in
       ap inRange given-now
-      ∙ rw (le-leb priority 255 (f .low), le-leb quantum 65535 (f .short), le-leb 1 quantum (f .least), le-leb quantum quantum all)
+      ∙ rw (le-leb priority 255 (f .low), le-leb 1 quantum (f .least), le-leb quantum 65535 (f .short), le-leb quantum quantum all)
 
   -- the new timeslice is a change of one
   given-retimed : Retimed (s .threads) (s .slices) (given t n priority quantum (s .slices)) (s .order) (last t (s .order)) t
@@ -101,48 +93,15 @@ module _ {s : State} (x : Sound s) {t n priority quantum : ℕ} (f : Fresh s t n
         above = above-last (s .slices) t (s .order);
       }
 
-  -- a free slot had the place Queue already, so only the table and the turn order change
-  queued : placeAt (s .places) t ≡ Queue
-  queued = x .mid .placed .free t (f .unlisted)
-
-  given-state : withGiven t n priority quantum s ≡ withTimeslices (given t n priority quantum (s .slices)) (last t (s .order)) s
-  unfolding withGiven
-  given-state =
-      let places : set (s .places) t Queue ≡ s .places = rw (← queued) (set-getD (s .places) t freePlace) in
-      let timed = withTimeslices (given t n priority quantum (s .slices)) (last t (s .order)) s in
-      ap (λ (ps : List Place). withPlaces ps timed) places
-
-  -- without a choice the current timeslice is still the topmost: the new one does not stand above it
-  given-settled : (running : Running) → s .running ≡ running
-      → aboveRunning (withTimeslices (given t n priority quantum (s .slices)) (last t (s .order)) s) t running ≡ false
-      → Settled (withTimeslices (given t n priority quantum (s .slices)) (last t (s .order)) s)
-  given-settled Nothing e z = clash true refl z
-  given-settled (Runs m c count) e z =
-      let a = active s x m c count e in
-      let other : c ≡ t → ⊥ = λ w. clash (member t (s .order)) (rw w at (a .listed)) (f .unlisted) in
-      runs-on c m count e (retimed-top s given-retimed other (a .topmost) z)
-      (subst (λ (k : ℕ). RunsAt (s .threads) k m count) (sym (owner-kept given-retimed c other)) (a .runs))
-
-  -- one timeslice more: L × (T + 1 + 1)
-  given-links : liveThreads (s .threads) * (length (last t (s .order)) + 1) ≤ linkLimit (forget s)
-  given-links = mul-le-mul-left (liveThreads (s .threads)) (omega (arith, length-last t (s .order)))
-
--- nobody stands Behind a timeslice that was not listed
+-- nobody stands Behind a timeslice that was not listed, and none that runs is it
 pub give-handed : (s : State) → Sound s → (t n priority quantum : ℕ) → (priority ≤ 255) × (quantum ≤ 65535)
     → refusal (Give t n priority quantum) (forget s) ≡ 0
     → Handed s (give t n priority quantum s) (update (Give t n priority quantum) (forget s))
-unfolding give
+unfolding give withGiven
 give-handed s x t n priority quantum f e =
     let g = fresh s t n priority quantum f e in
-    let p = update (Give t n priority quantum) (forget s) in
-    subst (λ (u : State). Handed s (record { state = u; links = 0; chooses = overtakes u (some t) }) p)
-    (sym (given-state x g))
-    (record {
-      mid =
-          retimed-mid (x .mid) (given-retimed x g) (queued x g)
-          (stay (λ u led. clash (member t (s .order)) (led .listed) (g .unlisted)));
-      plain = refl;
-      settled = given-settled x g (s .running) refl;
-      unwalked = λ z. refl;
-      links = λ z. omega (arith, given-links x g);
-    })
+    let left : leftAt (given t n priority quantum (s .slices)) t ≡ quantum = ap (λ (y : Slice). y .left) (given-now x g) in
+    joins-handed x (given-retimed x g)
+    (λ q h _ z. clash (member t (s .order)) (rw z at h) (g .unlisted))
+    (omega (arith, left, g .least))
+    (omega (arith, length-last t (s .order)))

@@ -1,23 +1,33 @@
--- "Choice only if a released one stands above the current": where none does, the machine is settled as it stands. For call and wake.
-use Prim.Native.Nat.{ℕ}
+-- "Choice only if a released one stands above the current": where none does, the machine is settled as it stands. For call and wake, and
+-- for give and refill, where one timeslice joins Queue that was not there.
+use Prim.Native.Nat.{ℕ, suc, _<_, _≤_, _+_, _*_}
 use mathlib.Core.Path.{_≡_, refl, sym, ap, _∙_, subst}
+use mathlib.Core.List.{List}
 use mathlib.Core.Bool.{Bool, true, false}
 use mathlib.Core.Option.{some}
 use native.Mathlib.Omega.{arith}
+use native.Mathlib.Nat.{mul-le-mul-left}
 use lib.ListN.{length}
+use lib.Dec.{eqb}
+use borrow.Author.Tests.{ne-eqb}
 use Rattle.rules.specs.declared.Place.{Place}
-use Rattle.rules.specs.declared.Place.the-variants.{Queue, Behind, On, Stalled}
-use Rattle.rules.specs.State.{State, Plain, forget, placeAt, ownerAt, liveThreads}
+use Rattle.rules.specs.declared.Place.the-variants.{Queue, Behind, On, Stalled, Spent}
+use Rattle.rules.specs.declared.Running.{Running}
+use Rattle.rules.specs.declared.Running.the-variants.{Nothing, Runs}
+use Rattle.rules.specs.Tests.{member}
+use Rattle.rules.specs.State.{Slice, State, Plain, forget, placeAt, ownerAt, leftAt, liveThreads}
 use Rattle.rules.specs.Order.{standsAbove}
 use Rattle.rules.specs.Release.{inQueue, onThread, topmostAt, release}
-use Rattle.rules.specs.Events.{releases, overtakes, aboveRunning}
+use Rattle.rules.specs.Events.{joins, releases, overtakes, aboveRunning}
+use Rattle.rules.specs.Plain.{plainTimeslices}
 use Rattle.rules.proofs.Basics.Views.{clash}
 use Rattle.rules.proofs.Order.Orders.{Top, top-some, above-total}
 use Rattle.rules.proofs.Soundness.Standings.{RunsAt}
-use Rattle.rules.proofs.Soundness.Places.{owner, Settled, nothing, runs-on}
-use Rattle.rules.proofs.Choosing.Releases.{Releasable, Released, nobody, joins, released, release-mid, forget-release}
+use Rattle.rules.proofs.Soundness.Places.{queue-is, owner, Settled, nothing, runs-on, Sound}
+use Rattle.rules.proofs.Choosing.Releases.{Releasable, Released, nobody, joins as joins-queue, released, release-mid, forget-release}
 use Rattle.rules.proofs.Choosing.Tops.{queue-top, top-stays}
-use Rattle.rules.proofs.Events.Hands.{Handed, same-limit}
+use Rattle.rules.proofs.Choosing.Slices.{Retimed, owner-kept, retimed, stay, retimed-mid, retimed-top}
+use Rattle.rules.proofs.Events.Hands.{linkLimit, Handed, same-limit, active}
 
 -- the same runs after a release
 runs-after : (at : Place → Bool) (s : State) (t n count : ℕ) → RunsAt (s .threads) (owner s t) n count
@@ -31,6 +41,7 @@ on-unqueued n Queue k q = clash false k refl
 on-unqueued n (Behind m) k q = clash false k refl
 on-unqueued n (On m) k q = clash false q refl
 on-unqueued n Stalled k q = clash false k refl
+on-unqueued n Spent k q = clash false k refl
 
 settled-after : (n : ℕ) (s : State) → Releasable (onThread n) s → Settled s → overtakes s (topmostAt (onThread n) s) ≡ false
     → Settled (release (onThread n) s)
@@ -61,7 +72,7 @@ settled-after n s x settled quiet = by (released (onThread n) s)
 
     by : Released (onThread n) s → Settled (release (onThread n) s)
     by (nobody e r) = rw r settled
-    by (joins q e r) = joined q e (rw e at quiet) settled
+    by (joins-queue q e r) = joined q e (rw e at quiet) settled
 
 -- what a release of those On a thread hands on
 pub releases-handed : (s : State) (n : ℕ) (s₁ : State) → Releasable (onThread n) s₁ → Settled s₁
@@ -76,3 +87,30 @@ releases-handed s n s₁ x settled lives turns =
       unwalked = λ q. refl;
       links = λ q. same-limit s 0 (forget s₁) (omega arith) lives turns;
     }
+
+-- a timeslice joins Queue that was not there: nobody stands Behind it, and what ran still runs unless it stands above
+module _ {s : State} (x : Sound s) {ss′ : List Slice} {order′ : List ℕ} {t : ℕ}
+    (r : Retimed (s .threads) (s .slices) ss′ (s .order) order′ t)
+    (outside : (q : ℕ) → member q (s .order) ≡ true → placeAt (s .places) q ≡ Queue → q ≡ t → ⊥) where
+  settled-joined : (running : Running) → s .running ≡ running → aboveRunning (retimed ss′ order′ t Queue s) t running ≡ false
+      → Settled (retimed ss′ order′ t Queue s)
+  settled-joined Nothing e z = clash true refl z
+  settled-joined (Runs m c count) e z =
+      let a = active s x m c count e in
+      let other = outside c (a .listed) (queue-is (placeAt (s .places) c) (queue-top s c (a .topmost) .taken)) in
+      runs-on c m count e (retimed-top s Queue r other (a .topmost) z)
+      (subst (λ (k : ℕ). RunsAt (s .threads) k m count) (sym (owner-kept r c other)) (a .runs))
+
+  pub joins-handed : 0 < leftAt ss′ t → length order′ ≤ suc (length (s .order))
+      → Handed s (joins t (retimed ss′ order′ t Queue s)) (plainTimeslices ss′ order′ (forget s))
+  joins-handed some-left turns =
+      let timed : eqb (leftAt ss′ t) 0 ≡ false = ne-eqb (leftAt ss′ t) 0 (λ z. omega arith) in
+      let few : liveThreads (s .threads) * (length order′ + 1) ≤ linkLimit (forget s) =
+      mul-le-mul-left (liveThreads (s .threads)) (omega arith) in
+      record {
+        mid = retimed-mid (x .mid) r Queue tt (sym timed) (stay refl (λ u led. absurd (outside t (led .listed) (led .queued) refl)));
+        plain = refl;
+        settled = settled-joined (s .running) refl;
+        unwalked = λ z. refl;
+        links = λ z. omega (arith, few);
+      }

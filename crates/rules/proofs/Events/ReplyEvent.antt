@@ -66,6 +66,7 @@ module _ (s : State) (x : Sound s) (server t count : ℕ) (a : Active s server t
           mid = x .mid;
           update = pair .update;
           queue = refl;
+          spared = refl;
           on = λ y m w.
               let n = not-ready w server (a .runs .ready) in
               stay-there (pair .update) w (pair .others m (not-calling w caller server calls) n) (avoids (s .threads) there n);

@@ -49,7 +49,7 @@ module _ (s : State) (x : Sound s) (n : ℕ) (live : liveAt (s .threads) n ≡ t
 
   change : Change (onThread n) s ts′ n
   change =
-      record { mid = x .mid; update = woken .update; queue = refl; on = λ y m w. by y m w (same m n); loops = stay here }
+      record { mid = x .mid; update = woken .update; queue = refl; spared = refl; on = λ y m w. by y m w (same m n); loops = stay here }
     where
       by : (y m : ℕ) → Waits (s .threads) y m → Same m n → OnKept (onThread n) ts′ y m
       by y m w (equal e f) = freed f

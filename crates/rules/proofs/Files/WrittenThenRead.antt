@@ -9,7 +9,7 @@ use lib.Seq.{take-append-seam, drop-append-seam}
 use borrow.Author.Tests.{le-leb}
 use Rattle.rules.specs.declared.Role.the-variants.{Client, Server}
 use Rattle.rules.specs.declared.Event.{Event}
-use Rattle.rules.specs.declared.Event.the-variants.{Create, Give, Call, Reply, Block, Wake, Charge, Abort}
+use Rattle.rules.specs.declared.Event.the-variants.{Create, Give, Call, Reply, Block, Wake, Charge, Abort, Refill}
 use Rattle.rules.specs.EventFile.{wordOf, highByte, lowByte, kindOf, operandsOf, recordOf, recordsOf, fourBytes, fileOf}
 use Rattle.rules.specs.EventFile.{bodyOf, recordAt, joined, eventsAfter, lengthField, recordsIn, orNone, fileRefusal, eventsOf}
 use Rattle.rules.proofs.Files.Reading.{eventsAfter-cons}
@@ -34,6 +34,7 @@ body-back Block = refl
 body-back (Wake n) = refl
 body-back (Charge units) = ap (λ (u : ℕ). some (Charge u)) (word-back units)
 body-back (Abort n) = refl
+body-back (Refill t) = refl
 
 -- whatever follows them
 within : (body rest : List ℕ) → recordAt (length body ∷ (body ++ rest)) ≡ bodyOf body

@@ -8,18 +8,19 @@ use lib.ListN.{length, List·getD-eq-default}
 use lib.Dec.{eqb, ltb}
 use borrow.Author.Tests.{eqb-true, eq-eqb, ltb-true, ltb-false}
 use Rattle.rules.specs.declared.Place.{Place}
-use Rattle.rules.specs.declared.Place.the-variants.{Queue, Behind, On, Stalled}
+use Rattle.rules.specs.declared.Place.the-variants.{Queue, Behind, On, Stalled, Spent}
 use Rattle.rules.specs.declared.Running.{Running}
 use Rattle.rules.specs.declared.Running.the-variants.{Nothing, Runs}
 use Rattle.rules.specs.declared.Chain.{Chain}
 use Rattle.rules.specs.Tests.{member, all, below}
-use Rattle.rules.specs.State.{State, forget, limit, freePlace, ownerAt, placeAt, liveAt}
+use Rattle.rules.specs.State.{State, forget, limit, freePlace, ownerAt, leftAt, placeAt, liveAt}
 use Rattle.rules.specs.Order.{standsAbove}
 use Rattle.rules.specs.Walk.{chainOf, verdict}
-use Rattle.rules.specs.Release.{inQueue, topmostAt}
-use Rattle.rules.specs.Sound.{shaped, placed, settled, settledOn, placeGood, waitsAt, isStalls, runsAs, sound}
-use Rattle.rules.proofs.Basics.Views.{Two, yes-true, no-false, two, clash, and-true-left, and-true-right, and-true-both, and3}
-use Rattle.rules.proofs.Basics.Views.{or-true-left, or-true-right}
+use Rattle.rules.specs.Release.{isSpent, inQueue, topmostAt}
+use Rattle.rules.specs.Sound.{shaped, placed, settled, settledOn, placeGood, spentGood, waitsAt, isStalls}
+use Rattle.rules.specs.Sound.{runsAs, sound}
+use Rattle.rules.proofs.Basics.Views.{Two, yes-true, no-false, two, clash, and-true-left, and-true-right, and-true-both, and4}
+use Rattle.rules.proofs.Basics.Views.{and3, or-true-left, or-true-right, agree-is, is-agree}
 use Rattle.rules.proofs.Basics.Members.{all-at, all-of, below-at, below-of}
 use Rattle.rules.proofs.Order.Orders.{top-some}
 use Rattle.rules.proofs.Soundness.Shapes.{Shape, shape-of, of-shape}
@@ -42,10 +43,12 @@ Good s t Queue = Unit {0}
 Good s t (Behind q) = Led s t q
 Good s t (On n) = Waits (s .threads) (owner s t) n
 Good s t Stalled = Stalls (s .threads) (owner s t)
+Good s t Spent = Unit {0}
 
 pub record Placed (s : State) : Type 0 where
   pub full : length (s .places) ≡ limit
   pub good : (t : ℕ) → member t (s .order) ≡ true → Good s t (placeAt (s .places) t)
+  pub spent : (t : ℕ) → member t (s .order) ≡ true → isSpent (placeAt (s .places) t) ≡ eqb (leftAt (s .slices) t) 0
   pub free : (t : ℕ) → member t (s .order) ≡ false → placeAt (s .places) t ≡ Queue
 
 -- what every event hands to the choice
@@ -75,6 +78,7 @@ queue-is Queue e = refl
 queue-is (Behind q) e = clash false e refl
 queue-is (On n) e = clash false e refl
 queue-is Stalled e = clash false e refl
+queue-is Spent e = clash false e refl
 
 -- On: what the test says is what the links say
 waits-of : (s : State) (t n : ℕ) → Standing (s .threads) (owner s t)
@@ -101,6 +105,7 @@ good-of s t x (Behind q) e =
     record { listed = z .0; queued = queue-is (placeAt (s .places) q) (z .1); above = z .2 }
 good-of s t x (On n) e = waits-of s t n x e
 good-of s t x Stalled e = stalls-of s t x e
+good-of s t x Spent e = tt
 
 of-good : (s : State) → Shape (forget s) → (t : ℕ) → member t (s .order) ≡ true → (p : Place) → Good s t p
     → placeGood s t (chainOf (s .threads) (s .slices) t) p ≡ true
@@ -110,9 +115,13 @@ of-good s x t h (On n) g =
     let z = waits-walk (x .sane) (owner-live s x t h) g in
     rw (z .0) (eq-eqb (chainOf (s .threads) (s .slices) t .end) n (z .1))
 of-good s x t h Stalled g = rw (stalls-walk (s .threads) (owner s t) g)
+of-good s x t h Spent g = refl
 
 abbrev placesTest : State → Bool
 placesTest s = all (λ t. placeGood s t (chainOf (s .threads) (s .slices) t) (placeAt (s .places) t)) (s .order)
+
+abbrev spentTest : State → Bool
+spentTest s = all (λ t. spentGood (leftAt (s .slices) t) (placeAt (s .places) t)) (s .order)
 
 abbrev freeTest : State → Bool
 freeTest s = below limit (λ t. member t (s .order) || inQueue (placeAt (s .places) t))
@@ -130,14 +139,17 @@ free-place s full e t h = by (two (ltb t limit))
 placed-of : (s : State) → Shape (forget s) → placed s ≡ true → Placed s
 unfolding placed
 placed-of s x e =
-    let z = and3 (eqb (length (s .places)) limit) (placesTest s) (freeTest s) e in
+    let z = and4 (eqb (length (s .places)) limit) (placesTest s) (spentTest s) (freeTest s) e in
     let full = eqb-true (length (s .places)) limit (z .0) in
     record {
       full = full;
       good =
           λ t h. good-of s t (stands s x t h) (placeAt (s .places) t)
           (all-at (λ u. placeGood s u (chainOf (s .threads) (s .slices) u) (placeAt (s .places) u)) (s .order) (z .1) t h);
-      free = free-place s full (z .2);
+      spent =
+          λ t h. agree-is (isSpent (placeAt (s .places) t)) (eqb (leftAt (s .slices) t) 0)
+          (all-at (λ u. spentGood (leftAt (s .slices) u) (placeAt (s .places) u)) (s .order) (z .2) t h);
+      free = free-place s full (z .3);
     }
 
 listed-or-queued : (b : Bool) (p : Place) → Two b → (b ≡ false → p ≡ Queue) → (b || inQueue p) ≡ true
@@ -147,10 +159,13 @@ listed-or-queued b p (no-false e) f = rw (f e) (or-true-right b true refl)
 of-placed : (s : State) → Shape (forget s) → Placed s → placed s ≡ true
 unfolding placed
 of-placed s x p =
-    and-true-both (eqb (length (s .places)) limit && placesTest s) (freeTest s)
+    and-true-both (eqb (length (s .places)) limit && placesTest s && spentTest s) (freeTest s)
+    (and-true-both (eqb (length (s .places)) limit && placesTest s) (spentTest s)
     (and-true-both (eqb (length (s .places)) limit) (placesTest s) (eq-eqb (length (s .places)) limit (p .full))
     (all-of (λ u. placeGood s u (chainOf (s .threads) (s .slices) u) (placeAt (s .places) u)) (s .order)
     (λ t h. of-good s x t h (placeAt (s .places) t) (p .good t h))))
+    (all-of (λ u. spentGood (leftAt (s .slices) u) (placeAt (s .places) u)) (s .order)
+    (λ t h. is-agree (isSpent (placeAt (s .places) t)) (eqb (leftAt (s .slices) t) 0) (p .spent t h))))
     (below-of (λ t. member t (s .order) || inQueue (placeAt (s .places) t)) limit
     (λ t h. listed-or-queued (member t (s .order)) (placeAt (s .places) t) (two (member t (s .order))) (p .free t)))
 

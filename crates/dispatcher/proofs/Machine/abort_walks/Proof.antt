@@ -81,7 +81,7 @@ returns c =
     let a = start .args in
     let m = a .t1 in
     let chain = at-walk .walk .result in
-    let shows = released-shown m stalled _ (aborted (a .n) (m .threads)) (m .timeslices) _ _ _ _ (at-aborted .aborted .ensures) refl refl
+    let shows = released-shown m stalled _ (aborted (a .n) (m .threads)) (m .timeslices) _ _ _ _ _ (at-aborted .aborted .ensures) refl refl
     refl (c .before .release .ensures) in
     let how = ap (λ (b : Bool). releaseAbort b (isBlocked (holdAt (m .threads) (chain .end))) (chain .end)
     (withThreads (aborted (a .n) (m .threads)) (shown m))) (sym (c .before .before .if2 .taken)) in
@@ -111,7 +111,7 @@ returns-2 c =
     let chain = at-walk .walk .result in
     let blocked : isBlocked (holdAt (m .threads) (chain .end)) ≡ true =
     sym (ap isBlocked (ends at-aborted)) ∙ sym (c .before .before .before .is-blocked .ensures) ∙ c .before .before .if3 .taken in
-    let shows = released-shown m (onThread (chain .end)) _ (aborted (a .n) (m .threads)) (m .timeslices) _ _ _ _
+    let shows = released-shown m (onThread (chain .end)) _ (aborted (a .n) (m .threads)) (m .timeslices) _ _ _ _ _
     (at-aborted .aborted .ensures) refl refl refl (c .before .release2 .ensures) in
     let how = ap₂ (λ (l b : Bool). releaseAbort l b (chain .end) (withThreads (aborted (a .n) (m .threads)) (shown m)))
     (sym (at-if2 .if2 .left)) (sym blocked) in

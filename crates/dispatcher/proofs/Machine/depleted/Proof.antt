@@ -1,12 +1,14 @@
--- The timeslice is refilled and goes to the back; its followers are released, and a choice follows.
+-- The timeslice goes to the back and is Spent; its followers are released, and a choice follows.
 use mathlib.Core.Path.{refl}
 use native.Mathlib.Omega.{arith}
 use Rattle.dispatcher.specs.Shown.{shown}
 use Rattle.rules.specs.Release.{behind}
-use Rattle.rules.specs.Timeslices.{refilled, toBack}
+use Rattle.rules.specs.declared.Place.the-variants.{Spent}
+use Rattle.rules.specs.Timeslices.{charged, toBack}
+use Rattle.rules.specs.Choice.{park}
 use Rattle.rules.specs.Events.{depletes}
 use Rattle.dispatcher.proofs.Answering.{chosen}
-use Rattle.dispatcher.proofs.TimesliceChanges.{movedTo, refills, left-places, released-shown, turned-exact}
+use Rattle.dispatcher.proofs.TimesliceChanges.{movedTo, left-at, charges, left-places, released-shown, turned-exact}
 use Rattle.dispatcher.proofs.ThreadChanges.{choosable}
 use Rattle.dispatcher.proofs.Machine.depleted.Statement.{statement}
 use Rattle.dispatcher.proofs.Machine.depleted.Tie as tie
@@ -18,32 +20,37 @@ element-copy-out-x : tie.Need-element-copy-out-x
 element-copy-out-x c = omega (arith, c .index .ensures, c .before .pre .1 .0)
 
 mul-y : tie.Need-mul-y
-mul-y c = omega (arith, c .before .index .ensures, c .before .before .pre .1 .0)
+mul-y c = omega (arith, c .before .before .index .ensures, c .before .before .before .pre .1 .0)
 
 element-set-from-y : tie.Need-element-set-from-y
-element-set-from-y c = omega (arith, c .before .index .ensures, c .before .before .pre .1 .0)
+element-set-from-y c = omega (arith, c .before .before .index .ensures, c .before .before .before .pre .1 .0)
+
+sub-left : tie.Need-sub-left
+sub-left c =
+    let start = c .before .before .before in
+    omega (arith, left-at (start .args .t1 .timeslices) _ _ (c .before .before .index .ensures), start .pre .1 .1 .1)
 
 choose-requires : tie.Need-choose-requires
 choose-requires c κs =
-    let start = c .before .before .before .before .before .before in
+    let start = c .before .before .before .before .before .before .before in
     choosable _ (turned-exact (start .args .t1) _ _ _ (start .pre .0 .exact) (c .before .to-back .ensures))
 
 returns : tie.Need-returns
-unfolding depletes
+unfolding depletes park
 returns c =
     let at-to-back = c .before .before in
-    let at-index = at-to-back .before .before .before .before in
+    let at-index = at-to-back .before .before .before .before .before in
     let start = at-index .before in
     let a = start .args in
     let m = a .t1 in
     let at = at-index .index .ensures in
     chosen (movedTo (m .threads) (c .before .release .result) (at-to-back .to-back .result) m) 0 _ _
-    (released-shown m (behind (a .t)) _ _ _ _ (refilled (a .t) (shown m .slices)) _ (toBack (a .t) (shown m .order)) refl
-    (refills (m .timeslices) _ (a .t) at) (left-places (m .timeslices) _ (a .t) _ at)
-    (rw (start .pre .1 .1) at (at-to-back .to-back .ensures .turns)) (c .before .release .ensures))
+    (released-shown m (behind (a .t)) _ _ _ _ (charged (a .t) (a .units) (shown m .slices)) _ _ (toBack (a .t) (shown m .order)) refl
+    (charges (m .timeslices) _ (a .t) (a .units) Spent at) (left-places (m .timeslices) _ (a .t) _ Spent at)
+    (rw (start .pre .1 .1 .0) at (at-to-back .to-back .ensures .turns)) (c .before .release .ensures))
     (c .choose .ensures)
 
 pub depleted-spec : {M : Type 1} → statement M
 depleted-spec =
     tie.close
-    (tie.spec (λ _ _. tt) mul-x element-copy-out-x mul-y element-set-from-y (λ _ _. tt) (λ _ _. tt) choose-requires returns)
+    (tie.spec (λ _ _. tt) mul-x element-copy-out-x sub-left mul-y element-set-from-y (λ _ _. tt) (λ _ _. tt) choose-requires returns)

@@ -10,7 +10,7 @@ use Rattle.rules.specs.declared.Event.the-variants.{Charge}
 use Rattle.dispatcher.proofs.Stored.{sound-stored, sound-shown}
 use Rattle.dispatcher.proofs.Answering.{refuse, accept, stands}
 use Rattle.dispatcher.proofs.Current.{current-fits, current-listed}
-use Rattle.dispatcher.proofs.TimesliceChanges.{left-at, left-places, charges, charge-spent, charge-left}
+use Rattle.dispatcher.proofs.TimesliceChanges.{left-at, place-stays, charges, charge-spent, charge-left}
 use Rattle.rules.specs.Events.{depletes, spends}
 use Rattle.dispatcher.proofs.Stored.{stored-with, live-is}
 use Rattle.dispatcher.proofs.ThreadChanges.{choosable}
@@ -60,8 +60,10 @@ depleted-requires c κs =
       choosable _ (sound-stored _ (start .pre)),
       (
         current-fits (shown m) _ _ _ (sound-shown m (start .pre)) run,
-        current-listed (shown m) _ _
-            _ (sound-shown m (start .pre)) run,
+        (
+          current-listed (shown m) _ _ _ (sound-shown m (start .pre)) run,
+          omega (arith, left-at (m .timeslices) _ _ (c .before .before .before .index .ensures), c .before .if2 .left),
+        ),
       ),
     )
 
@@ -82,7 +84,7 @@ returns-3 c =
       le-ltb _ _
           (c .before .before .if2 .left),
     ) refl)
-    (depletes (run .0 .1 .0) (shown m)) (charge-spent m _ _ _ _ _ (run .1) (at-index .index .ensures) (c .before .if3 .taken)) _
+    (depletes (run .0 .1 .0) (a .units) (shown m)) (charge-spent m _ _ _ _ _ (run .1) (at-index .index .ensures) (c .before .if3 .taken)) _
     (c .depleted .ensures)
 
 mul-y : tie.Need-mul-y
@@ -121,8 +123,8 @@ returns-5 c =
     let m = a .t1 in
     let run = at-running .running .given in
     let at = at-index .index .ensures in
-    let slices = charges (m .timeslices) _ (run .0 .1 .0) (a .units) at in
-    let places = left-places (m .timeslices) _ (run .0 .1 .0)
+    let slices = charges (m .timeslices) _ (run .0 .1 .0) (a .units) _ at in
+    let places = place-stays (m .timeslices) _ (run .0 .1 .0)
     (getD (m .timeslices) (at-index .index .result) freeTimeslice .left - a .units) at in
     let ok = sound-stored m (start .pre) in
     accept (Charge (a .units)) m (start .pre)

@@ -14,7 +14,7 @@ use Rattle.dispatcher.proofs.Answering.{refuse, accept}
 use Rattle.dispatcher.proofs.Stored.{turns-fit}
 use Rattle.rules.proofs.Soundness.Places.{sound-of}
 use Rattle.rules.proofs.Bounds.{turns-room}
-use Rattle.dispatcher.proofs.TimesliceChanges.{gift, gift-shown, gift-exact, given-to}
+use Rattle.dispatcher.proofs.TimesliceChanges.{gift, gift-shown, gift-exact, joined-to}
 use Rattle.dispatcher.proofs.ThreadChanges.{read, choosable}
 use borrow.Author.Needs.{needs}
 use Rattle.dispatcher.proofs.Machine.dispatch_give.Statement.{statement}
@@ -167,7 +167,7 @@ returns-7 c =
     )
     refl)
     (give (a .t) (a .n) (a .priority) (a .quantum) (shown m)) refl _
-    (given-to (a .t) (gift m (at-index2 .index2 .result) (c .before .index3 .result) (a .t) (a .n) (a .priority) (a .quantum)
+    (joined-to (a .t) (gift m (at-index2 .index2 .result) (c .before .index3 .result) (a .t) (a .n) (a .priority) (a .quantum)
     (at-index2 .index2 .ensures) (c .before .index3 .ensures) (roomy at-if3)) _ _
     (gift-shown m (at-index2 .index2 .result) (c .before .index3 .result) (a .t) (a .n) (a .priority) (a .quantum)
     (at-index2 .index2 .ensures) (c .before .index3 .ensures) (roomy at-if3) full) (c .overtaken .ensures))

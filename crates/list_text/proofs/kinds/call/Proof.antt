@@ -1,11 +1,9 @@
--- One number and nothing else.
-use Prim.Native.Nat.{ℕ}
-use mathlib.Core.Path.{sym, ap, _∙_}
+-- One byte and nothing else.
+use mathlib.Core.Path.{_∙_}
 use native.Mathlib.Omega.{arith}
 use borrow.Author.Needs.{needs}
 use Rattle.rules.specs.declared.Event.the-variants.{Call}
-use Rattle.list_text.specs.Scanning.{orWrong}
-use Rattle.list_text.specs.declared.Line.the-variants.{One}
+use Rattle.list_text.proofs.Taking.{byte-words}
 use Rattle.list_text.proofs.kinds.call.Statement.{statement}
 use Rattle.list_text.proofs.kinds.call.Tie as tie
 
@@ -19,11 +17,7 @@ answer-requires : tie.Need-answer-requires
 answer-requires c κs = tt
 
 returns : tie.Need-returns
-returns c =
-    let taken = c .before .before .take-last in
-    c .answer .ensures
-    ∙ ap (λ (n : ℕ). orWrong (taken .result .fault) (One (Call n))) (c .before .narrow .ensures)
-    ∙ sym (taken .ensures .0 .is Call)
+returns c = c .answer .ensures ∙ byte-words Call (c .before .before .take-last .ensures .0) (c .before .narrow .ensures)
 
 pub call-spec : {M : Type 1} → statement M
 call-spec = tie.close (tie.spec take-last-requires narrow-requires answer-requires returns)

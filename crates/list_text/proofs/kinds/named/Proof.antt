@@ -210,10 +210,22 @@ returns-8 c =
     let not-1 = sym (at-same .same .ensures) ∙ at-if1 .if1 .left in
     rw (not-1, not-2, not-3, not-4, not-5, not-6, not-7, is-8) (c .abort .ensures)
 
+slice-aggregate-same-9 : tie.Need-slice-aggregate-same-9
+slice-aggregate-same-9 c = search needs
+
+same-requires-9 : tie.Need-same-requires-9
+same-requires-9 c κs = tt
+
+refill-requires : tie.Need-refill-requires
+refill-requires c κs = tt
+
 returns-9 : tie.Need-returns-9
 unfolding eventNamed bytes
 returns-9 c =
-    let at-same7 = c .before .before .before .before in
+    let at-if8 = c .before .before .before .before in
+    let at-same8 = at-if8 .before in
+    let at-if7 = at-same8 .before .before in
+    let at-same7 = at-if7 .before in
     let at-if6 = at-same7 .before .before in
     let at-same6 = at-if6 .before in
     let at-if5 = at-same6 .before .before in
@@ -226,15 +238,46 @@ returns-9 c =
     let at-same2 = at-if2 .before in
     let at-if1 = at-same2 .before .before in
     let at-same = at-if1 .before in
-    let not-8 = sym (c .before .same8 .ensures) ∙ c .if8 .left in
-    let not-7 = sym (at-same7 .same7 .ensures) ∙ c .before .before .before .if7 .left in
+    let is-9 = sym (c .before .before .same9 .ensures) ∙ c .before .if9 .taken in
+    let not-8 = sym (at-same8 .same8 .ensures) ∙ at-if8 .if8 .left in
+    let not-7 = sym (at-same7 .same7 .ensures) ∙ at-if7 .if7 .left in
     let not-6 = sym (at-same6 .same6 .ensures) ∙ at-if6 .if6 .left in
     let not-5 = sym (at-same5 .same5 .ensures) ∙ at-if5 .if5 .left in
     let not-4 = sym (at-same4 .same4 .ensures) ∙ at-if4 .if4 .left in
     let not-3 = sym (at-same3 .same3 .ensures) ∙ at-if3 .if3 .left in
     let not-2 = sym (at-same2 .same2 .ensures) ∙ at-if2 .if2 .left in
     let not-1 = sym (at-same .same .ensures) ∙ at-if1 .if1 .left in
-    rw (not-1, not-2, not-3, not-4, not-5, not-6, not-7, not-8) refl
+    rw (not-1, not-2, not-3, not-4, not-5, not-6, not-7, not-8, is-9) (c .refill .ensures)
+
+returns-10 : tie.Need-returns-10
+unfolding eventNamed bytes
+returns-10 c =
+    let at-if8 = c .before .before .before in
+    let at-same8 = at-if8 .before in
+    let at-if7 = at-same8 .before .before in
+    let at-same7 = at-if7 .before in
+    let at-if6 = at-same7 .before .before in
+    let at-same6 = at-if6 .before in
+    let at-if5 = at-same6 .before .before in
+    let at-same5 = at-if5 .before in
+    let at-if4 = at-same5 .before .before in
+    let at-same4 = at-if4 .before in
+    let at-if3 = at-same4 .before .before in
+    let at-same3 = at-if3 .before in
+    let at-if2 = at-same3 .before .before in
+    let at-same2 = at-if2 .before in
+    let at-if1 = at-same2 .before .before in
+    let at-same = at-if1 .before in
+    let not-9 = sym (c .before .same9 .ensures) ∙ c .if9 .left in
+    let not-8 = sym (at-same8 .same8 .ensures) ∙ at-if8 .if8 .left in
+    let not-7 = sym (at-same7 .same7 .ensures) ∙ at-if7 .if7 .left in
+    let not-6 = sym (at-same6 .same6 .ensures) ∙ at-if6 .if6 .left in
+    let not-5 = sym (at-same5 .same5 .ensures) ∙ at-if5 .if5 .left in
+    let not-4 = sym (at-same4 .same4 .ensures) ∙ at-if4 .if4 .left in
+    let not-3 = sym (at-same3 .same3 .ensures) ∙ at-if3 .if3 .left in
+    let not-2 = sym (at-same2 .same2 .ensures) ∙ at-if2 .if2 .left in
+    let not-1 = sym (at-same .same .ensures) ∙ at-if1 .if1 .left in
+    rw (not-1, not-2, not-3, not-4, not-5, not-6, not-7, not-8, not-9) refl
 
 pub named-spec : {M : Type 1} → statement M
 named-spec =
@@ -272,4 +315,8 @@ named-spec =
     same-requires-8
     abort-requires
     returns-8
-    returns-9)
+    slice-aggregate-same-9
+    same-requires-9
+    refill-requires
+    returns-9
+    returns-10)

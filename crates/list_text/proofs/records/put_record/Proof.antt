@@ -51,6 +51,12 @@ enum-known-event-6 c = search needs
 put-three-requires-3 : tie.Need-put-three-requires-3
 put-three-requires-3 c κs = tt
 
+enum-known-event-7 : tie.Need-enum-known-event-7
+enum-known-event-7 c = search needs
+
+put-three-requires-4 : tie.Need-put-three-requires-4
+put-three-requires-4 c κs = tt
+
 same-length : tie.Need-same-length
 same-length c = search needs
 
@@ -115,6 +121,14 @@ returns-8 c =
     let at-event6 = c .before .before .before .before .before in
     rw (at-event6 .event6 .given .1) (c .before .before .put-three3 .ensures)
 
+same-length-9 : tie.Need-same-length-9
+same-length-9 c = search needs
+
+returns-9 : tie.Need-returns-9
+returns-9 c =
+    let at-event7 = c .before .before .before .before .before in
+    rw (at-event7 .event7 .given .1) (c .before .before .put-three4 .ensures)
+
 pub put-record-spec : {M : Type 1} → statement M
 put-record-spec =
     tie.close
@@ -135,6 +149,8 @@ put-record-spec =
     put-charge-requires
     enum-known-event-6
     put-three-requires-3
+    enum-known-event-7
+    put-three-requires-4
     same-length
     returns
     same-length-2
@@ -150,4 +166,6 @@ put-record-spec =
     same-length-7
     returns-7
     same-length-8
-    returns-8)
+    returns-8
+    same-length-9
+    returns-9)

@@ -1,4 +1,4 @@
--- Each kind has as many operands as document 01 says.
+-- Each kind has as many operands as documents 01 and 02 say.
 use mathlib.Core.Path.{refl}
 use native.Mathlib.Omega.{arith}
 use borrow.Author.Needs.{needs}
@@ -29,6 +29,9 @@ enum-told-7 c = search needs
 enum-told-8 : tie.Need-enum-told-8
 enum-told-8 c = search needs
 
+enum-told-9 : tie.Need-enum-told-9
+enum-told-9 c = search needs
+
 returns : tie.Need-returns
 returns c = (rw (c .enum-told .given .1) refl, omega arith)
 
@@ -53,6 +56,9 @@ returns-7 c = (rw (c .enum-told7 .given .1) refl, omega arith)
 returns-8 : tie.Need-returns-8
 returns-8 c = (rw (c .enum-told8 .given .1) refl, omega arith)
 
+returns-9 : tie.Need-returns-9
+returns-9 c = (rw (c .enum-told9 .given .1) refl, omega arith)
+
 pub record-length-spec : {M : Type 1} → statement M
 record-length-spec =
     tie.close
@@ -65,6 +71,7 @@ record-length-spec =
     enum-told-6
     enum-told-7
     enum-told-8
+    enum-told-9
     returns
     returns-2
     returns-3
@@ -72,4 +79,5 @@ record-length-spec =
     returns-5
     returns-6
     returns-7
-    returns-8)
+    returns-8
+    returns-9)

@@ -83,6 +83,18 @@ cast-put-named-4 c = search needs
 put-named-requires-4 : tie.Need-put-named-requires-4
 put-named-requires-4 c κs = tt
 
+enum-known-event-7 : tie.Need-enum-known-event-7
+enum-known-event-7 c = search needs
+
+slice-aggregate-put-named-5 : tie.Need-slice-aggregate-put-named-5
+slice-aggregate-put-named-5 c = search needs
+
+cast-put-named-5 : tie.Need-cast-put-named-5
+cast-put-named-5 c = search needs
+
+put-named-requires-5 : tie.Need-put-named-requires-5
+put-named-requires-5 c κs = tt
+
 same-length : tie.Need-same-length
 same-length c = search needs
 
@@ -155,6 +167,15 @@ returns-8 c =
     let at-event6 = c .before .before .before .before .before .before in
     rw (at-event6 .event6 .given .1) (c .before .before .put-named4 .ensures)
 
+same-length-9 : tie.Need-same-length-9
+same-length-9 c = search needs
+
+returns-9 : tie.Need-returns-9
+unfolding eventWords bytes
+returns-9 c =
+    let at-event7 = c .before .before .before .before .before .before in
+    rw (at-event7 .event7 .given .1) (c .before .before .put-named5 .ensures)
+
 pub put-event-spec : {M : Type 1} → statement M
 put-event-spec =
     tie.close
@@ -185,6 +206,10 @@ put-event-spec =
     slice-aggregate-put-named-4
     cast-put-named-4
     put-named-requires-4
+    enum-known-event-7
+    slice-aggregate-put-named-5
+    cast-put-named-5
+    put-named-requires-5
     same-length
     returns
     same-length-2
@@ -200,4 +225,6 @@ put-event-spec =
     same-length-7
     returns-7
     same-length-8
-    returns-8)
+    returns-8
+    same-length-9
+    returns-9)

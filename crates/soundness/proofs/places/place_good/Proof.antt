@@ -1,6 +1,6 @@
 -- The place decides which clause is asked; the walk of On and of Stalled is from the owner read.
 use mathlib.Core.Path.{_∙_}
-use Rattle.rules.specs.declared.Place.the-variants.{Queue, Behind, On, Stalled}
+use Rattle.rules.specs.declared.Place.the-variants.{Queue, Behind, On, Stalled, Spent}
 use Rattle.rules.specs.Sound.{waitsAt, isStalls}
 use Rattle.soundness.proofs.Clauses.{verdict-test, chain-is, place-is}
 use borrow.Author.Needs.{needs}
@@ -18,6 +18,9 @@ enum-known-place-2 c = search needs
 
 enum-told-2 : tie.Need-enum-told-2
 enum-told-2 c = search needs
+
+enum-told-3 : tie.Need-enum-told-3
+enum-told-3 c = search needs
 
 returns : tie.Need-returns
 returns c =
@@ -59,8 +62,15 @@ returns-4 c =
     ∙ place-is (start .args .threads) (start .args .timeslices) (start .args .order) _ (start .args .live) _ _ Stalled
     (read .timeslice-at .ensures) (told .enum-told2 .given .1)
 
+returns-5 : tie.Need-returns-5
+returns-5 c =
+    let read = c .before .before in
+    let start = read .before in
+    place-is (start .args .threads) (start .args .timeslices) (start .args .order) (start .args .live-threads) (start .args .live) _ _ Spent
+    (read .timeslice-at .ensures) (c .enum-told3 .given .1)
+
 pub place-good-spec : {M : Type 1} → statement M
 place-good-spec =
     tie.close
     (tie.spec (λ _ _. tt) enum-told enum-known-place (λ _ _. tt) enum-known-place-2 (λ _ _. tt) (λ _ _. tt) (λ _ _. tt) enum-told-2
-    (λ _ _. tt) (λ _ _. tt) (λ _ _. tt) returns returns-2 returns-3 returns-4)
+    (λ _ _. tt) (λ _ _. tt) (λ _ _. tt) enum-told-3 returns returns-2 returns-3 returns-4 returns-5)

@@ -28,6 +28,9 @@ charge-requires c κs = search needs
 abort-requires : tie.Need-abort-requires
 abort-requires c κs = search needs
 
+refill-requires : tie.Need-refill-requires
+refill-requires c κs = search needs
+
 returns : tie.Need-returns
 returns c = simp (← c .create .ensures, c .before .match .keys1)
 
@@ -53,7 +56,10 @@ returns-8 : tie.Need-returns-8
 returns-8 c = simp (← c .abort .ensures, c .before .match .keys8)
 
 returns-9 : tie.Need-returns-9
-returns-9 c =
+returns-9 c = simp (← c .refill .ensures, c .before .match .keys9)
+
+returns-10 : tie.Need-returns-10
+returns-10 c =
     simp (
       ne-eqb _ _ (c .match .rest .1),
       ne-eqb _ _ (c .match .rest .0 .1),
@@ -63,10 +69,11 @@ returns-9 c =
       ne-eqb _ _ (c .match .rest .0 .0 .0 .0 .0 .1),
       ne-eqb _ _ (c .match .rest .0 .0 .0 .0 .0 .0 .1),
       ne-eqb _ _ (c .match .rest .0 .0 .0 .0 .0 .0 .0 .1),
+      ne-eqb _ _ (c .match .rest .0 .0 .0 .0 .0 .0 .0 .0 .1),
     )
 
 pub event-of-spec : {M : Type 1} → statement M
 event-of-spec =
     tie.close
-    (tie.spec create-requires give-requires call-requires reply-requires block-requires wake-requires charge-requires abort-requires returns
-    returns-2 returns-3 returns-4 returns-5 returns-6 returns-7 returns-8 returns-9)
+    (tie.spec create-requires give-requires call-requires reply-requires block-requires wake-requires charge-requires abort-requires
+    refill-requires returns returns-2 returns-3 returns-4 returns-5 returns-6 returns-7 returns-8 returns-9 returns-10)

@@ -1,0 +1,185 @@
+-- A timeslice is Spent as long as nothing is left of it, and no event but its own refill gives it time: the plain machine's update shows
+-- that, and a sound machine's place follows what is left.
+use Prim.Native.Nat.{ℕ, zero, suc, _-_}
+use mathlib.Core.Path.{_≡_, refl, sym, ap, _∙_}
+use mathlib.Core.List.{List}
+use mathlib.Core.Bool.{Bool, true, false, cond, not, _||_}
+use mathlib.Core.Option.{Option, none, some}
+use native.Mathlib.Omega.{arith}
+use lib.Seq.{getD-set-other}
+use lib.Dec.{eqb, ltb}
+use borrow.Author.Tests.{le-ltb, not-false}
+use Rattle.rules.specs.declared.Hold.{Hold}
+use Rattle.rules.specs.declared.Hold.the-variants.{Ready, Idle, Blocked, Calling, Helping}
+use Rattle.rules.specs.declared.Service.{Service}
+use Rattle.rules.specs.declared.Service.the-variants.{Nobody, Serving, Orphan}
+use Rattle.rules.specs.declared.Place.{Place}
+use Rattle.rules.specs.declared.Place.the-variants.{Queue, Behind, On, Stalled, Spent}
+use Rattle.rules.specs.declared.Running.{Running}
+use Rattle.rules.specs.declared.Running.the-variants.{Nothing, Runs}
+use Rattle.rules.specs.declared.Chain.{Chain}
+use Rattle.rules.specs.declared.Event.{Event}
+use Rattle.rules.specs.declared.Event.the-variants.{Create, Give, Call, Reply, Block, Wake, Charge, Abort, Refill}
+use Rattle.rules.specs.Tests.{member}
+use Rattle.rules.specs.State.{Slice, State, Plain, forget, freeSlice, holdAt, serviceAt, leftAt, placeAt}
+use Rattle.rules.specs.Walk.{chainOf, verdict, Verdict, runs, retries, waits, stalls}
+use Rattle.rules.specs.Threads.{donate, replied}
+use Rattle.rules.specs.Timeslices.{given, charged, refilled}
+use Rattle.rules.specs.Release.{isSpent}
+use Rattle.rules.specs.Sound.{sound}
+use Rattle.rules.specs.Refusals.{refusal, aboveLimit}
+use Rattle.rules.specs.Events.{offer}
+use Rattle.rules.specs.Plain.{plainThreads, plainRunning, plainCall, plainCallAt, plainReply, plainReplyTo, plainBlock, plainCharge, update}
+use Rattle.rules.specs.Plain.{judgeBy, judgeTop, topmostRunnable, judgeFrom, judge, plainOfferAfter, plainOffer}
+use Rattle.rules.specs.Lists.{GiveRanged}
+use Rattle.rules.proofs.Basics.Views.{clash}
+use Rattle.rules.proofs.Basics.Accepting.{passes}
+use Rattle.rules.proofs.Soundness.Places.{queue-is, Sound, sound-of}
+use Rattle.rules.proofs.Choosing.Tops.{queue-top}
+use Rattle.rules.proofs.Events.Hands.{active}
+use Rattle.rules.proofs.Events.Lefts.{left-others, in-table}
+use Rattle.rules.proofs.Agreement.{agrees}
+
+-- "Left is 0 exactly for Spent."
+pub spent-left : (s : State) → sound s ≡ true → (t : ℕ) → member t (s .order) ≡ true
+    → isSpent (placeAt (s .places) t) ≡ eqb (leftAt (s .slices) t) 0
+spent-left s h = sound-of s h .mid .placed .spent
+
+-- "18, refill of a live timeslice that is not Spent": refused by what is left, and so by the place
+pub refill-refused : (s : State) → sound s ≡ true → (t : ℕ) → member t (s .order) ≡ true
+    → refusal (Refill t) (forget s) ≡ cond (isSpent (placeAt (s .places) t)) 0 18
+refill-refused s h t l =
+    let fits : aboveLimit t ≡ false = le-ltb 127 t (omega (arith, sound-of s h .mid .shape .turns .small t l)) in
+    rw (fits, l, ← spent-left s h t l) (by (isSpent (placeAt (s .places) t)))
+  where
+    by : (b : Bool) → _≡_ {A = ℕ} (cond (not b) 18 0) (cond b 0 18)
+    by true = refl
+    by false = refl
+
+-- judging changes no timeslice
+judged-by : (k : ℕ) (p : Plain) → ((q : Plain) → judgeFrom k q .slices ≡ q .slices) → (t : ℕ) (c : Chain) (v : Verdict)
+    → judgeBy (λ q. judgeFrom k q) p t c v .slices ≡ p .slices
+judged-by k p ih t c runs = refl
+judged-by k p ih t c retries = ih (plainThreads (donate (c .helper) (c .end) (p .threads)) p)
+judged-by k p ih t c waits = refl
+judged-by k p ih t c stalls = refl
+
+judged-top : (k : ℕ) (p : Plain) → ((q : Plain) → judgeFrom k q .slices ≡ q .slices) → (o : Option ℕ)
+    → judgeTop (λ q. judgeFrom k q) p o .slices ≡ p .slices
+judged-top k p ih none = refl
+judged-top k p ih (some t) =
+    let c = chainOf (p .threads) (p .slices) t in
+    judged-by k p ih t c (verdict (p .threads) c)
+
+judged : (k : ℕ) (p : Plain) → judgeFrom k p .slices ≡ p .slices
+unfolding judgeFrom
+judged zero p = refl
+judged (suc k) p = judged-top k p (judged k) (topmostRunnable p)
+
+judge-slices : (p : Plain) → judge p .slices ≡ p .slices
+unfolding judge
+judge-slices p = judged _ p
+
+-- nor do a call, a reply and a block
+called-at : (server caller t count : ℕ) (p : Plain) (h : Hold) → plainCallAt server caller t count p h .slices ≡ p .slices
+called-at server caller t count p Ready = refl
+called-at server caller t count p Idle = refl
+called-at server caller t count p Blocked = refl
+called-at server caller t count p (Calling n) = refl
+called-at server caller t count p (Helping n) = refl
+
+called : (server : ℕ) (p : Plain) (r : Running) → plainCall server p r .slices ≡ p .slices
+called server p Nothing = refl
+called server p (Runs caller t count) = called-at server caller t count p (holdAt (p .threads) server)
+
+one-of : {ss : List Slice} (b : Bool) (p q : Plain) → p .slices ≡ ss → q .slices ≡ ss → cond b p q .slices ≡ ss
+one-of true p q e f = e
+one-of false p q e f = f
+
+replied-to : (t count : ℕ) (p : Plain) (v : Service) → plainReplyTo t count p v .slices ≡ p .slices
+replied-to t count p Nobody = refl
+replied-to t count p (Serving caller) = one-of (ltb 0 count) (plainRunning (Runs caller t (count - 1)) p) p refl refl
+replied-to t count p Orphan = refl
+
+replies : (p : Plain) (r : Running) → plainReply p r .slices ≡ p .slices
+replies p Nothing = refl
+replies p (Runs server t count) = replied-to t count (plainThreads (replied server (p .threads)) p) (serviceAt (p .threads) server)
+
+blocks : (p : Plain) (r : Running) → plainBlock p r .slices ≡ p .slices
+blocks p Nothing = refl
+blocks p (Runs n t count) = refl
+
+-- what is left of a Spent timeslice after an accepted event that is not its refill: the current timeslice and one that is given are others
+module _ (s : State) (x : Sound s) (t : ℕ) (listed : member t (s .order) ≡ true) (spent : placeAt (s .places) t ≡ Spent) where
+  abbrev p : Plain
+  p = forget s
+
+  -- the same table has the same left
+  same-left : {ss ss′ : List Slice} → ss ≡ ss′ → leftAt ss t ≡ leftAt ss′ t
+  same-left e = ap (λ (l : List Slice). leftAt l t) e
+
+  given-kept : (u n priority quantum : ℕ) → refusal (Give u n priority quantum) p ≡ 0
+      → leftAt (given u n priority quantum (s .slices)) t ≡ leftAt (s .slices) t
+  unfolding given
+  given-kept u n priority quantum k =
+      let free = passes (member u (s .order)) 2 _ (passes (aboveLimit u || aboveLimit n) 1 _ k .1) .0 in
+      let other : t ≡ u → ⊥ = λ z. clash (member u (s .order)) (rw z at listed) free in
+      ap (λ (y : Slice). y .left) (getD-set-other (s .slices) u t _ freeSlice other)
+
+  current-other : {n c count : ℕ} → s .running ≡ Runs n c count → t ≡ c → ⊥
+  current-other {n} {c} {count} e z =
+      let queued = queue-is (placeAt (s .places) c) (queue-top s c (active s x n c count e .topmost) .taken) in
+      clash (isSpent (placeAt (s .places) t)) (ap isSpent spent) (ap isSpent (ap (placeAt (s .places)) z ∙ queued))
+
+  charged-kept : (units : ℕ) (r : Running) → s .running ≡ r → leftAt (plainCharge units p r .slices) t ≡ leftAt (s .slices) t
+  unfolding charged
+  charged-kept units Nothing e = refl
+  charged-kept units (Runs n c count) e =
+      let inside = in-table (x .mid) c (active s x n c count e .listed) in
+      same-left {ss′ = charged c units (s .slices)} (one-of (eqb (leftAt (s .slices) c) units) _ _ refl refl)
+      ∙ ap (λ (y : Slice). y .left) (left-others (s .slices) c _ inside t (current-other e))
+
+  refilled-kept : (u : ℕ) → refusal (Refill u) p ≡ 0 → (Refill u ≡ Refill t → ⊥) → leftAt (refilled u (s .slices)) t ≡ leftAt (s .slices) t
+  unfolding refilled
+  refilled-kept u k other =
+      let live = passes (not (member u (s .order))) 3 _ (passes (aboveLimit u) 1 _ k .1) .0 in
+      let inside = in-table (x .mid) u (not-false (member u (s .order)) live) in
+      ap (λ (y : Slice). y .left) (left-others (s .slices) u _ inside t (λ z. other (ap Refill (sym z))))
+
+  -- all kinds of event: a further kind is one more line
+  update-kept : (e : Event) → refusal e p ≡ 0 → (e ≡ Refill t → ⊥) → leftAt (update e p .slices) t ≡ leftAt (s .slices) t
+  update-kept (Create n r) k other = refl
+  update-kept (Give u n priority quantum) k other = given-kept u n priority quantum k
+  update-kept (Call server) k other = same-left (called server p (s .running))
+  update-kept Reply k other = same-left (replies p (s .running))
+  update-kept Block k other = same-left (blocks p (s .running))
+  update-kept (Wake n) k other = refl
+  update-kept (Charge units) k other = charged-kept units (s .running) refl
+  update-kept (Abort n) k other = refl
+  update-kept (Refill u) k other = refilled-kept u k other
+
+  offered-kept : (e : Event) (k : ℕ) → refusal e p ≡ k → (e ≡ Refill t → ⊥)
+      → leftAt (plainOfferAfter k e p .plain .slices) t ≡ leftAt (s .slices) t
+  offered-kept e zero q other = same-left (judge-slices (update e p)) ∙ update-kept e q other
+  offered-kept e (suc k) q other = refl
+
+spent-is : (p : Place) → isSpent p ≡ true → p ≡ Spent
+spent-is Queue e = clash false e refl
+spent-is (Behind q) e = clash false e refl
+spent-is (On n) e = clash false e refl
+spent-is Stalled e = clash false e refl
+spent-is Spent e = refl
+
+-- a Spent timeslice is Spent after every event but its refill, accepted or refused, as long as it is there
+pub spent-until-refilled : (e : Event) (s : State) → GiveRanged e → sound s ≡ true → (t : ℕ) → member t (s .order) ≡ true
+    → placeAt (s .places) t ≡ Spent → (e ≡ Refill t → ⊥) → member t (offer e s .state .order) ≡ true
+    → placeAt (offer e s .state .places) t ≡ Spent
+unfolding plainOffer
+spent-until-refilled e s f h t listed spent other still =
+    let x = sound-of s h in
+    let a = agrees e s x f in
+    let s′ = offer e s .state in
+    let left : leftAt (s′ .slices) t ≡ leftAt (s .slices) t =
+    ap (λ (p : Plain). leftAt (p .slices) t) (a .plain) ∙ offered-kept s x t listed spent e (refusal e (forget s)) refl other in
+    let none-left : eqb (leftAt (s .slices) t) 0 ≡ true = sym (spent-left s h t listed) ∙ ap isSpent spent in
+    spent-is (placeAt (s′ .places) t) (a .sound .mid .placed .spent t still ∙ ap (λ (l : ℕ). eqb l 0) left ∙ none-left)
