@@ -29,13 +29,13 @@ use Rattle.rules.specs.Release.{isSpent}
 use Rattle.rules.specs.Sound.{sound}
 use Rattle.rules.specs.Refusals.{refusal, aboveLimit}
 use Rattle.rules.specs.Events.{offer}
-use Rattle.rules.specs.Plain.{plainThreads, plainRunning, plainCall, plainCallAt, plainReply, plainReplyTo, plainBlock, plainCharge, update}
-use Rattle.rules.specs.Plain.{judgeBy, judgeTop, topmostRunnable, judgeFrom, judge, plainOfferAfter, plainOffer}
+use Rattle.rules.specs.Plain.{plainThreads, plainRunning, plainCall, plainCallAt, plainReply, plainReplyTo, plainBlock}
+use Rattle.rules.specs.Plain.{plainCharge, update, judgeBy, judgeTop, topmostRunnable, judgeFrom, judge, plainOfferAfter, plainOffer}
 use Rattle.rules.specs.Lists.{GiveRanged}
 use Rattle.rules.proofs.Basics.Views.{clash}
 use Rattle.rules.proofs.Basics.Accepting.{passes}
-use Rattle.rules.proofs.Soundness.Places.{queue-is, Sound, sound-of}
-use Rattle.rules.proofs.Choosing.Tops.{queue-top}
+use Rattle.rules.proofs.Soundness.Places.{Sound, sound-of}
+use Rattle.rules.proofs.Choosing.Tops.{top-queued}
 use Rattle.rules.proofs.Events.Hands.{active}
 use Rattle.rules.proofs.Events.Lefts.{left-others, in-table}
 use Rattle.rules.proofs.Agreement.{agrees}
@@ -128,7 +128,7 @@ module _ (s : State) (x : Sound s) (t : ℕ) (listed : member t (s .order) ≡ t
 
   current-other : {n c count : ℕ} → s .running ≡ Runs n c count → t ≡ c → ⊥
   current-other {n} {c} {count} e z =
-      let queued = queue-is (placeAt (s .places) c) (queue-top s c (active s x n c count e .topmost) .taken) in
+      let queued = top-queued s c (active s x n c count e .topmost) in
       clash (isSpent (placeAt (s .places) t)) (ap isSpent spent) (ap isSpent (ap (placeAt (s .places)) z ∙ queued))
 
   charged-kept : (units : ℕ) (r : Running) → s .running ≡ r → leftAt (plainCharge units p r .slices) t ≡ leftAt (s .slices) t

@@ -23,8 +23,8 @@ use Rattle.rules.specs.Plain.{plainRunning, plainThreads, topmostRunnabl
 use Rattle.rules.proofs.Basics.Views.{clash}
 use Rattle.rules.proofs.Links.Chains.{walk-links}
 use Rattle.rules.proofs.Soundness.Standings.{Waits, RunsAt, RetriesAt, Standing, running, retrying, waiting, stalling, runs-walk}
-use Rattle.rules.proofs.Soundness.Places.{queue-is, owner, owner-live, stands, Good, Mid, Settled, nothing, runs-on, Sound}
-use Rattle.rules.proofs.Choosing.Tops.{queue-top, top-runs, none-runs}
+use Rattle.rules.proofs.Soundness.Places.{owner, owner-live, stands, Good, Mid, Settled, nothing, runs-on, Sound}
+use Rattle.rules.proofs.Choosing.Tops.{queue-top, top-queued, top-runs, none-runs}
 use Rattle.rules.proofs.Choosing.Parking.{unparked, unparkedIn, unparked-most, howMany-fewer, park-mid, park-forget, park-fewer}
 use Rattle.rules.proofs.Choosing.Changes.{mid-running}
 use Rattle.rules.proofs.Choosing.Retrying.{retry-mid, retry-forget, retry-live, Next, retry-next}
@@ -127,7 +127,7 @@ some-unparked s t e =
     let top = queue-top s t e in
     let none-pass = howMany-fewer (λ u. false) (λ u. unparked (placeAt (s .places) u)) (s .order) (λ u h k. clash false k refl) t
     (top .listed) refl
-    (ap unparked (queue-is (placeAt (s .places) t) (top .taken))) in
+    (ap unparked (top-queued s t e)) in
     omega (arith, none-pass)
 
 -- the topmost in Queue retries: the next look ends the choice

@@ -17,9 +17,9 @@ use Rattle.rules.specs.Choice.{park}
 use Rattle.rules.proofs.Basics.Views.{clash, Same, equal, different, same}
 use Rattle.rules.proofs.Basics.Members.{Listed, here, there, listed, not-listed, member-here, member-there}
 use Rattle.rules.proofs.Order.Orders.{Top}
-use Rattle.rules.proofs.Soundness.Places.{queue-is, Good, Mid}
+use Rattle.rules.proofs.Soundness.Places.{Good, Mid}
 use Rattle.rules.proofs.Choosing.Releases.{Releasable, release-mid, forget-release, Moved, unmoved, chosen, place-after}
-use Rattle.rules.proofs.Choosing.Tops.{queue-top}
+use Rattle.rules.proofs.Choosing.Tops.{queue-top, top-queued}
 use Rattle.rules.proofs.Choosing.Slices.{freed, retimed-releasable, unchanged}
 
 -- how many members of a list pass a test
@@ -96,7 +96,7 @@ module _ (s : State) (x : Mid s) (t : ℕ) (e : topmostAt inQueue s ≡ some t) 
   top = queue-top s t e
 
   queued : placeAt (s .places) t ≡ Queue
-  queued = queue-is (placeAt (s .places) t) (top .taken)
+  queued = top-queued s t e
 
   at-t : placeAt (set (s .places) t p) t ≡ p
   at-t = getD-set-same (s .places) t p freePlace (rw (x .placed .full) (x .shape .turns .small t (top .listed)))

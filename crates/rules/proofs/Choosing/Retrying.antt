@@ -26,9 +26,9 @@ use Rattle.rules.proofs.Links.Chains.{same as unchanged}
 use Rattle.rules.proofs.Soundness.Shapes.{Sane}
 use Rattle.rules.proofs.Soundness.Standings.{Waits, blocked, idle, RunsAt, RetriesAt, donation-is, helping-is}
 use Rattle.rules.proofs.Tables.Updates.{PairUpdate, donate-update, idle-uncalled, held-live}
-use Rattle.rules.proofs.Soundness.Places.{queue-is, owner, Good, Mid}
+use Rattle.rules.proofs.Soundness.Places.{owner, Good, Mid}
 use Rattle.rules.proofs.Choosing.Releases.{Releasable, release-mid, forget-release, Queued, was, joined-now, queue-after, queue-kept}
-use Rattle.rules.proofs.Choosing.Tops.{queue-top, is-queued, topmost-release}
+use Rattle.rules.proofs.Choosing.Tops.{queue-top, top-queued, is-queued, topmost-release}
 use Rattle.rules.proofs.Choosing.Changes.{Change, change-releasable, OnKept, freed, stay, stay-there, avoids, ends-here}
 
 -- the last helper of a chain: the thread before its Idle end
@@ -178,7 +178,7 @@ module _ (s : State) (x : Mid s) (t : ℕ) (e : topmostAt inQueue s ≡ some t) 
 
       t-queued : inQueue (placeAt (after .places) t) ≡ true
       t-queued =
-          is-queued (queue-kept (onThread n) (withThreads ts′ s) releasable t (top .listed) (queue-is (placeAt (s .places) t) (top .taken)))
+          is-queued (queue-kept (onThread n) (withThreads ts′ s) releasable t (top .listed) (top-queued s t e))
 
       found : (q : ℕ) → topmostAt inQueue after ≡ some q → Top (s .slices) (λ u. inQueue (placeAt (after .places) u)) (s .order) q
       found q f =

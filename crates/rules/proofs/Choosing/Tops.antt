@@ -22,6 +22,9 @@ use Rattle.rules.proofs.Choosing.Releases.{Releasable, Queued, was, joi
 pub queue-top : (s : State) (t : ℕ) → topmostAt inQueue s ≡ some t → Top (s .slices) (λ u. inQueue (placeAt (s .places) u)) (s .order) t
 queue-top s t e = top-some (s .slices) (λ u. inQueue (placeAt (s .places) u)) (s .order) t e
 
+pub top-queued : (s : State) (t : ℕ) → topmostAt inQueue s ≡ some t → placeAt (s .places) t ≡ Queue
+top-queued s t e = queue-is (placeAt (s .places) t) (queue-top s t e .taken)
+
 pub queue-none : (s : State) → topmostAt inQueue s ≡ none → (u : ℕ) → member u (s .order) ≡ true → inQueue (placeAt (s .places) u) ≡ false
 queue-none s e = top-none (s .slices) (λ u. inQueue (placeAt (s .places) u)) (s .order) e
 
@@ -74,7 +77,7 @@ top-runs s x t e m =
       listed = top .listed;
       taken =
           and-true-both (lets (verdict (s .threads) (chainOf (s .threads) (s .slices) t))) (hasTime (s .slices) t) m
-          (queued-time s x t (top .listed) (queue-is (placeAt (s .places) t) (top .taken)));
+          (queued-time s x t (top .listed) (top-queued s t e));
       above = λ u h k n. below-top s x t top u h k n (placeAt (s .places) u) refl (x .placed .good u h);
     })
 
@@ -108,7 +111,7 @@ top-stays at s x t e over =
     ∙ is-top (s .slices) (λ u. inQueue (placeAt (release at s .places) u)) (s .order) t
     (record {
       listed = top .listed;
-      taken = is-queued (queue-kept at s x t (top .listed) (queue-is (placeAt (s .places) t) (top .taken)));
+      taken = is-queued (queue-kept at s x t (top .listed) (top-queued s t e));
       above = λ u h k n. by u h n (queue-after at s x u h k);
     })
   where

@@ -21,9 +21,9 @@ use Rattle.rules.specs.Plain.{update, plainCharge, plainTimeslices}
 use Rattle.rules.proofs.Basics.Views.{Two, yes-true, no-false, two, clash, or-false-right}
 use Rattle.rules.proofs.Basics.Accepting.{passes}
 use Rattle.rules.proofs.Order.Orders.{is-top, above-back, member-back, distinct-back, length-back}
-use Rattle.rules.proofs.Soundness.Places.{queue-is, runs-on, Mid, Sound}
+use Rattle.rules.proofs.Soundness.Places.{runs-on, Mid, Sound}
 use Rattle.rules.proofs.Choosing.Releases.{release-mid, forget-release}
-use Rattle.rules.proofs.Choosing.Tops.{queue-top}
+use Rattle.rules.proofs.Choosing.Tops.{queue-top, top-queued}
 use Rattle.rules.proofs.Choosing.Slices.{retimed, freed, stay, retimed-releasable, retimed-mid, stays-put}
 use Rattle.rules.proofs.Events.Hands.{Handed, same-limit, Active, active}
 use Rattle.rules.proofs.Events.Lefts.{left-is, left-owner, left-above, in-table, range, left-retimed, left-changed}
@@ -31,7 +31,7 @@ use Rattle.rules.proofs.Events.Lefts.{left-is, left-owner, left-above, 
 -- the current timeslice: listed and in Queue
 module _ {s : State} (x : Sound s) {n t count : ℕ} (a : Active s n t count) where
   queued : placeAt (s .places) t ≡ Queue
-  queued = queue-is (placeAt (s .places) t) (queue-top s t (a .topmost) .taken)
+  queued = top-queued s t (a .topmost)
 
   inside : t < length (s .slices)
   inside = in-table (x .mid) t (a .listed)

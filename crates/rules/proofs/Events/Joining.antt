@@ -23,9 +23,9 @@ use Rattle.rules.specs.Plain.{plainTimeslices}
 use Rattle.rules.proofs.Basics.Views.{clash}
 use Rattle.rules.proofs.Order.Orders.{Top, top-some, above-total}
 use Rattle.rules.proofs.Soundness.Standings.{RunsAt}
-use Rattle.rules.proofs.Soundness.Places.{queue-is, owner, Settled, nothing, runs-on, Sound}
+use Rattle.rules.proofs.Soundness.Places.{owner, Settled, nothing, runs-on, Sound}
 use Rattle.rules.proofs.Choosing.Releases.{Releasable, Released, nobody, joins as joins-queue, released, release-mid, forget-release}
-use Rattle.rules.proofs.Choosing.Tops.{queue-top, top-stays}
+use Rattle.rules.proofs.Choosing.Tops.{queue-top, top-queued, top-stays}
 use Rattle.rules.proofs.Choosing.Slices.{Retimed, owner-kept, retimed, stay, retimed-mid, retimed-top}
 use Rattle.rules.proofs.Events.Hands.{linkLimit, Handed, same-limit, active}
 
@@ -97,7 +97,7 @@ module _ {s : State} (x : Sound s) {ss′ : List Slice} {order′ : List ℕ} {t
   settled-joined Nothing e z = clash true refl z
   settled-joined (Runs m c count) e z =
       let a = active s x m c count e in
-      let other = outside c (a .listed) (queue-is (placeAt (s .places) c) (queue-top s c (a .topmost) .taken)) in
+      let other = outside c (a .listed) (top-queued s c (a .topmost)) in
       runs-on c m count e (retimed-top s Queue r other (a .topmost) z)
       (subst (λ (k : ℕ). RunsAt (s .threads) k m count) (sym (owner-kept r c other)) (a .runs))
 
