@@ -1,4 +1,5 @@
--- Document 01 as definitions that compute, a file for each of its sections, in its order and words. This is what a reader must believe.
+-- Document 01 as definitions that compute, a file for each of its sections, in its order and words, with what the requests of document 02
+-- that have landed change and add, each under its sentence. This is what a reader must believe.
 pub mod Tests
 -- What belongs to the machine
 pub mod State

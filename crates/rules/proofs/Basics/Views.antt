@@ -49,6 +49,9 @@ and-true-right false b e = clash false e refl
 pub and-true-both : (a b : Bool) → a ≡ true → b ≡ true → (a && b) ≡ true
 and-true-both a b p q = rw (p, q)
 
+pub and-false-left : (a b : Bool) → a ≡ false → (a && b) ≡ false
+and-false-left a b p = rw p
+
 pub and-false-right : (a b : Bool) → b ≡ false → (a && b) ≡ false
 and-false-right true b q = q
 and-false-right false b q = refl

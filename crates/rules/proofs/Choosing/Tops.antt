@@ -1,7 +1,7 @@
 -- The top lemma: in a machine midway, whoever stands above the topmost in Queue is put aside, and may not run.
 use Prim.Native.Nat.{ℕ}
 use mathlib.Core.Path.{_≡_, refl, sym, ap, _∙_, subst}
-use mathlib.Core.Bool.{Bool, true, false, not, _&&_}
+use mathlib.Core.Bool.{Bool, true, false, not}
 use mathlib.Core.Option.{none, some}
 use lib.Dec.{eqb}
 use Rattle.rules.specs.declared.Place.{Place}
@@ -9,10 +9,10 @@ use Rattle.rules.specs.declared.Place.the-variants.{Queue, Behind, On, S
 use Rattle.rules.specs.Tests.{member}
 use Rattle.rules.specs.State.{State, forget, leftAt, placeAt}
 use Rattle.rules.specs.Order.{standsAbove, topmost}
-use Rattle.rules.specs.Walk.{Verdict, chainOf, verdict, lets, hasTime, mayRun}
+use Rattle.rules.specs.Walk.{chainOf, verdict, lets, hasTime, mayRun}
 use Rattle.rules.specs.Release.{isSpent, inQueue, topmostAt, release}
 use Rattle.rules.specs.Plain.{topmostRunnable}
-use Rattle.rules.proofs.Basics.Views.{clash, Same, equal, different, same, and-true-both, and-false-right}
+use Rattle.rules.proofs.Basics.Views.{clash, Same, equal, different, same, and-true-both, and-false-left, and-false-right}
 use Rattle.rules.proofs.Order.Orders.{Top, top-some, top-none, is-top, is-none, above-trans}
 use Rattle.rules.proofs.Soundness.Standings.{Waits, Stalls, waits-walk, stalls-walk}
 use Rattle.rules.proofs.Soundness.Places.{queue-is, owner, owner-live, Good, Mid}
@@ -35,10 +35,12 @@ is-queued e = ap inQueue e
 waits-idle : (s : State) → Mid s → (u n : ℕ) → member u (s .order) ≡ true → Waits (s .threads) (owner s u) n
     → mayRun (s .threads) (s .slices) u ≡ false
 waits-idle s x u n h w =
-    ap (λ (v : Verdict). lets v && hasTime (s .slices) u) (waits-walk (x .shape .sane) (owner-live s (x .shape) u h) w .0)
+    and-false-left (lets (verdict (s .threads) (chainOf (s .threads) (s .slices) u))) _
+    (ap lets (waits-walk (x .shape .sane) (owner-live s (x .shape) u h) w .0))
 
 stalls-idle : (s : State) (u : ℕ) → Stalls (s .threads) (owner s u) → mayRun (s .threads) (s .slices) u ≡ false
-stalls-idle s u never = ap (λ (v : Verdict). lets v && hasTime (s .slices) u) (stalls-walk (s .threads) (owner s u) never)
+stalls-idle s u never =
+    and-false-left (lets (verdict (s .threads) (chainOf (s .threads) (s .slices) u))) _ (ap lets (stalls-walk (s .threads) (owner s u) never))
 
 -- nothing is left of a Spent one, and something of every other
 spent-idle : (s : State) → Mid s → (u : ℕ) → member u (s .order) ≡ true → placeAt (s .places) u ≡ Spent
