@@ -1,322 +1,172 @@
--- The names in turn: the first that the word is.
-use mathlib.Core.Path.{refl, sym, _∙_}
-use Rattle.rules.specs.Key.{bytes}
-use Rattle.list_text.specs.Reading.{eventNamed}
+-- The names in turn: a test that fails leaves the kinds after it, and the first that holds tells the event.
+use Prim.Native.Nat.{ℕ}
+use mathlib.Core.Path.{_≡_, refl, sym, _∙_}
+use mathlib.Core.Bool.{Bool, true, false, cond}
+use mathlib.Core.List.{List, [], _∷_}
+use lib.ListN.{drop}
+use denote.Ref.{now}
 use borrow.Author.Needs.{needs}
+use Rattle.rules.specs.declared.Event.the-variants.{Reply, Block}
+use Rattle.rules.specs.Key.{bytes}
+use Rattle.list_text.specs.declared.Line.{Line}
+use Rattle.list_text.specs.declared.Line.the-variants.{Wrong}
+use Rattle.list_text.specs.Reading.{eventNamed, noSuchEvent, wordsOf, same, last, create, give, call, wake, charge, abort, refill}
 use Rattle.list_text.proofs.kinds.named.Statement.{statement}
 use Rattle.list_text.proofs.kinds.named.Tie as tie
 
-slice-aggregate-same : tie.Need-slice-aggregate-same
-slice-aggregate-same c = search needs
+-- a kind of event: its name, and the line that the words after the name make
+abbrev Kind : Type 0
+Kind = List ℕ × (List (List ℕ) → Line)
 
-same-requires : tie.Need-same-requires
-same-requires c κs = tt
+-- the chain of `eventNamed` as a list: past k failed tests, `drop k kinds` is left of it
+abbrev kinds : List Kind
+kinds =
+    (bytes "create", create)
+    ∷ (bytes "give", give)
+    ∷ (bytes "call", call)
+    ∷ (bytes "reply", last Reply)
+    ∷ (bytes "block", last Block)
+    ∷ (bytes "wake", wake)
+    ∷ (bytes "charge", charge)
+    ∷ (bytes "abort", abort)
+    ∷ (bytes "refill", refill)
+    ∷ []
 
-create-requires : tie.Need-create-requires
-create-requires c κs = tt
+abbrev among : List Kind → List ℕ → List (List ℕ) → Line
+among [] word words = Wrong noSuchEvent
+among (kind ∷ rest) word words = cond (same word (kind .0)) (kind .1 words) (among rest word words)
 
+among-all : (word : List ℕ) (words : List (List ℕ)) → eventNamed word words ≡ among kinds word words
+unfolding eventNamed
+among-all word words = refl
+
+-- only the rest can still name the event; the words are fields, so that no lemma spells the way back to the start
+record Past (rest : List Kind) : Type 0 where
+  word : List ℕ
+  words : List (List ℕ)
+  is : eventNamed word words ≡ among rest word words
+
+-- the next test, by what it answers
+module _ {kind : Kind} {rest : List Kind} {answer : Bool} (p : Past (kind ∷ rest)) (tested : answer ≡ same (p .word) (kind .0)) where
+  abbrev fails : answer ≡ false → Past rest
+  fails e = record { word = p .word; words = p .words; is = rw (sym tested ∙ e) at (p .is) }
+
+  holds : answer ≡ true → {line : Line} → line ≡ kind .1 (p .words) → line ≡ eventNamed (p .word) (p .words)
+  holds e made = made ∙ sym (rw (sym tested ∙ e) at (p .is))
+
+abbrev past-0 : tie.After-same-arg → Past kinds
+past-0 c =
+    let a = c .before .before .before .args in
+    let word = now (a .word) in
+    let words = wordsOf (drop (a .at) (now (a .line))) in
+    record { word = word; words = words; is = among-all word words }
+
+-- the kinds in turn: what is returned, and the place past the test, which is an `abbrev` since its words have to compute to the start's
 returns : tie.Need-returns
-unfolding eventNamed bytes
+unfolding bytes
 returns c =
-    let is-1 = sym (c .before .before .same .ensures) ∙ c .before .if1 .taken in
-    rw is-1 (c .create .ensures)
+    let tested = c .before .before in
+    holds (past-0 (tested .before)) (tested .same .ensures) (c .before .if1 .taken) (c .create .ensures)
 
-slice-aggregate-same-2 : tie.Need-slice-aggregate-same-2
-slice-aggregate-same-2 c = search needs
-
-same-requires-2 : tie.Need-same-requires-2
-same-requires-2 c κs = tt
-
-give-requires : tie.Need-give-requires
-give-requires c κs = tt
+abbrev past-1 : tie.Else1 → Past (drop 1 kinds)
+unfolding bytes
+past-1 c = fails (past-0 (c .before .before)) (c .before .same .ensures) (c .if1 .left)
 
 returns-2 : tie.Need-returns-2
-unfolding eventNamed bytes
+unfolding bytes
 returns-2 c =
-    let at-if1 = c .before .before .before .before in
-    let at-same = at-if1 .before in
-    let is-2 = sym (c .before .before .same2 .ensures) ∙ c .before .if2 .taken in
-    let not-1 = sym (at-same .same .ensures) ∙ at-if1 .if1 .left in
-    rw (not-1, is-2) (c .give .ensures)
+    let tested = c .before .before in
+    holds (past-1 (tested .before .before)) (tested .same2 .ensures) (c .before .if2 .taken) (c .give .ensures)
 
-slice-aggregate-same-3 : tie.Need-slice-aggregate-same-3
-slice-aggregate-same-3 c = search needs
-
-same-requires-3 : tie.Need-same-requires-3
-same-requires-3 c κs = tt
-
-call-requires : tie.Need-call-requires
-call-requires c κs = tt
+abbrev past-2 : tie.Else2 → Past (drop 2 kinds)
+unfolding bytes
+past-2 c = fails (past-1 (c .before .before .before)) (c .before .same2 .ensures) (c .if2 .left)
 
 returns-3 : tie.Need-returns-3
-unfolding eventNamed bytes
+unfolding bytes
 returns-3 c =
-    let at-if2 = c .before .before .before .before in
-    let at-same2 = at-if2 .before in
-    let at-if1 = at-same2 .before .before in
-    let at-same = at-if1 .before in
-    let is-3 = sym (c .before .before .same3 .ensures) ∙ c .before .if3 .taken in
-    let not-2 = sym (at-same2 .same2 .ensures) ∙ at-if2 .if2 .left in
-    let not-1 = sym (at-same .same .ensures) ∙ at-if1 .if1 .left in
-    rw (not-1, not-2, is-3) (c .call .ensures)
+    let tested = c .before .before in
+    holds (past-2 (tested .before .before)) (tested .same3 .ensures) (c .before .if3 .taken) (c .call .ensures)
 
-slice-aggregate-same-4 : tie.Need-slice-aggregate-same-4
-slice-aggregate-same-4 c = search needs
-
-same-requires-4 : tie.Need-same-requires-4
-same-requires-4 c κs = tt
-
-alone-requires : tie.Need-alone-requires
-alone-requires c κs = tt
+abbrev past-3 : tie.Else3 → Past (drop 3 kinds)
+unfolding bytes
+past-3 c = fails (past-2 (c .before .before .before)) (c .before .same3 .ensures) (c .if3 .left)
 
 returns-4 : tie.Need-returns-4
-unfolding eventNamed bytes
+unfolding bytes
 returns-4 c =
-    let at-if3 = c .before .before .before .before in
-    let at-same3 = at-if3 .before in
-    let at-if2 = at-same3 .before .before in
-    let at-same2 = at-if2 .before in
-    let at-if1 = at-same2 .before .before in
-    let at-same = at-if1 .before in
-    let is-4 = sym (c .before .before .same4 .ensures) ∙ c .before .if4 .taken in
-    let not-3 = sym (at-same3 .same3 .ensures) ∙ at-if3 .if3 .left in
-    let not-2 = sym (at-same2 .same2 .ensures) ∙ at-if2 .if2 .left in
-    let not-1 = sym (at-same .same .ensures) ∙ at-if1 .if1 .left in
-    rw (not-1, not-2, not-3, is-4) (c .alone .ensures)
+    let tested = c .before .before in
+    holds (past-3 (tested .before .before)) (tested .same4 .ensures) (c .before .if4 .taken) (c .alone .ensures)
 
-slice-aggregate-same-5 : tie.Need-slice-aggregate-same-5
-slice-aggregate-same-5 c = search needs
-
-same-requires-5 : tie.Need-same-requires-5
-same-requires-5 c κs = tt
-
-alone-requires-2 : tie.Need-alone-requires-2
-alone-requires-2 c κs = tt
+abbrev past-4 : tie.Else4 → Past (drop 4 kinds)
+unfolding bytes
+past-4 c = fails (past-3 (c .before .before .before)) (c .before .same4 .ensures) (c .if4 .left)
 
 returns-5 : tie.Need-returns-5
-unfolding eventNamed bytes
+unfolding bytes
 returns-5 c =
-    let at-if4 = c .before .before .before .before in
-    let at-same4 = at-if4 .before in
-    let at-if3 = at-same4 .before .before in
-    let at-same3 = at-if3 .before in
-    let at-if2 = at-same3 .before .before in
-    let at-same2 = at-if2 .before in
-    let at-if1 = at-same2 .before .before in
-    let at-same = at-if1 .before in
-    let is-5 = sym (c .before .before .same5 .ensures) ∙ c .before .if5 .taken in
-    let not-4 = sym (at-same4 .same4 .ensures) ∙ at-if4 .if4 .left in
-    let not-3 = sym (at-same3 .same3 .ensures) ∙ at-if3 .if3 .left in
-    let not-2 = sym (at-same2 .same2 .ensures) ∙ at-if2 .if2 .left in
-    let not-1 = sym (at-same .same .ensures) ∙ at-if1 .if1 .left in
-    rw (not-1, not-2, not-3, not-4, is-5) (c .alone2 .ensures)
+    let tested = c .before .before in
+    holds (past-4 (tested .before .before)) (tested .same5 .ensures) (c .before .if5 .taken) (c .alone2 .ensures)
 
-slice-aggregate-same-6 : tie.Need-slice-aggregate-same-6
-slice-aggregate-same-6 c = search needs
-
-same-requires-6 : tie.Need-same-requires-6
-same-requires-6 c κs = tt
-
-wake-requires : tie.Need-wake-requires
-wake-requires c κs = tt
+abbrev past-5 : tie.Else5 → Past (drop 5 kinds)
+unfolding bytes
+past-5 c = fails (past-4 (c .before .before .before)) (c .before .same5 .ensures) (c .if5 .left)
 
 returns-6 : tie.Need-returns-6
-unfolding eventNamed bytes
+unfolding bytes
 returns-6 c =
-    let at-if5 = c .before .before .before .before in
-    let at-same5 = at-if5 .before in
-    let at-if4 = at-same5 .before .before in
-    let at-same4 = at-if4 .before in
-    let at-if3 = at-same4 .before .before in
-    let at-same3 = at-if3 .before in
-    let at-if2 = at-same3 .before .before in
-    let at-same2 = at-if2 .before in
-    let at-if1 = at-same2 .before .before in
-    let at-same = at-if1 .before in
-    let is-6 = sym (c .before .before .same6 .ensures) ∙ c .before .if6 .taken in
-    let not-5 = sym (at-same5 .same5 .ensures) ∙ at-if5 .if5 .left in
-    let not-4 = sym (at-same4 .same4 .ensures) ∙ at-if4 .if4 .left in
-    let not-3 = sym (at-same3 .same3 .ensures) ∙ at-if3 .if3 .left in
-    let not-2 = sym (at-same2 .same2 .ensures) ∙ at-if2 .if2 .left in
-    let not-1 = sym (at-same .same .ensures) ∙ at-if1 .if1 .left in
-    rw (not-1, not-2, not-3, not-4, not-5, is-6) (c .wake .ensures)
+    let tested = c .before .before in
+    holds (past-5 (tested .before .before)) (tested .same6 .ensures) (c .before .if6 .taken) (c .wake .ensures)
 
-slice-aggregate-same-7 : tie.Need-slice-aggregate-same-7
-slice-aggregate-same-7 c = search needs
-
-same-requires-7 : tie.Need-same-requires-7
-same-requires-7 c κs = tt
-
-charge-requires : tie.Need-charge-requires
-charge-requires c κs = tt
+abbrev past-6 : tie.Else6 → Past (drop 6 kinds)
+unfolding bytes
+past-6 c = fails (past-5 (c .before .before .before)) (c .before .same6 .ensures) (c .if6 .left)
 
 returns-7 : tie.Need-returns-7
-unfolding eventNamed bytes
+unfolding bytes
 returns-7 c =
-    let at-if6 = c .before .before .before .before in
-    let at-same6 = at-if6 .before in
-    let at-if5 = at-same6 .before .before in
-    let at-same5 = at-if5 .before in
-    let at-if4 = at-same5 .before .before in
-    let at-same4 = at-if4 .before in
-    let at-if3 = at-same4 .before .before in
-    let at-same3 = at-if3 .before in
-    let at-if2 = at-same3 .before .before in
-    let at-same2 = at-if2 .before in
-    let at-if1 = at-same2 .before .before in
-    let at-same = at-if1 .before in
-    let is-7 = sym (c .before .before .same7 .ensures) ∙ c .before .if7 .taken in
-    let not-6 = sym (at-same6 .same6 .ensures) ∙ at-if6 .if6 .left in
-    let not-5 = sym (at-same5 .same5 .ensures) ∙ at-if5 .if5 .left in
-    let not-4 = sym (at-same4 .same4 .ensures) ∙ at-if4 .if4 .left in
-    let not-3 = sym (at-same3 .same3 .ensures) ∙ at-if3 .if3 .left in
-    let not-2 = sym (at-same2 .same2 .ensures) ∙ at-if2 .if2 .left in
-    let not-1 = sym (at-same .same .ensures) ∙ at-if1 .if1 .left in
-    rw (not-1, not-2, not-3, not-4, not-5, not-6, is-7) (c .charge .ensures)
+    let tested = c .before .before in
+    holds (past-6 (tested .before .before)) (tested .same7 .ensures) (c .before .if7 .taken) (c .charge .ensures)
 
-slice-aggregate-same-8 : tie.Need-slice-aggregate-same-8
-slice-aggregate-same-8 c = search needs
-
-same-requires-8 : tie.Need-same-requires-8
-same-requires-8 c κs = tt
-
-abort-requires : tie.Need-abort-requires
-abort-requires c κs = tt
+abbrev past-7 : tie.Else7 → Past (drop 7 kinds)
+unfolding bytes
+past-7 c = fails (past-6 (c .before .before .before)) (c .before .same7 .ensures) (c .if7 .left)
 
 returns-8 : tie.Need-returns-8
-unfolding eventNamed bytes
+unfolding bytes
 returns-8 c =
-    let at-if7 = c .before .before .before .before in
-    let at-same7 = at-if7 .before in
-    let at-if6 = at-same7 .before .before in
-    let at-same6 = at-if6 .before in
-    let at-if5 = at-same6 .before .before in
-    let at-same5 = at-if5 .before in
-    let at-if4 = at-same5 .before .before in
-    let at-same4 = at-if4 .before in
-    let at-if3 = at-same4 .before .before in
-    let at-same3 = at-if3 .before in
-    let at-if2 = at-same3 .before .before in
-    let at-same2 = at-if2 .before in
-    let at-if1 = at-same2 .before .before in
-    let at-same = at-if1 .before in
-    let is-8 = sym (c .before .before .same8 .ensures) ∙ c .before .if8 .taken in
-    let not-7 = sym (at-same7 .same7 .ensures) ∙ at-if7 .if7 .left in
-    let not-6 = sym (at-same6 .same6 .ensures) ∙ at-if6 .if6 .left in
-    let not-5 = sym (at-same5 .same5 .ensures) ∙ at-if5 .if5 .left in
-    let not-4 = sym (at-same4 .same4 .ensures) ∙ at-if4 .if4 .left in
-    let not-3 = sym (at-same3 .same3 .ensures) ∙ at-if3 .if3 .left in
-    let not-2 = sym (at-same2 .same2 .ensures) ∙ at-if2 .if2 .left in
-    let not-1 = sym (at-same .same .ensures) ∙ at-if1 .if1 .left in
-    rw (not-1, not-2, not-3, not-4, not-5, not-6, not-7, is-8) (c .abort .ensures)
+    let tested = c .before .before in
+    holds (past-7 (tested .before .before)) (tested .same8 .ensures) (c .before .if8 .taken) (c .abort .ensures)
 
-slice-aggregate-same-9 : tie.Need-slice-aggregate-same-9
-slice-aggregate-same-9 c = search needs
-
-same-requires-9 : tie.Need-same-requires-9
-same-requires-9 c κs = tt
-
-refill-requires : tie.Need-refill-requires
-refill-requires c κs = tt
+abbrev past-8 : tie.Else8 → Past (drop 8 kinds)
+unfolding bytes
+past-8 c = fails (past-7 (c .before .before .before)) (c .before .same8 .ensures) (c .if8 .left)
 
 returns-9 : tie.Need-returns-9
-unfolding eventNamed bytes
+unfolding bytes
 returns-9 c =
-    let at-if8 = c .before .before .before .before in
-    let at-same8 = at-if8 .before in
-    let at-if7 = at-same8 .before .before in
-    let at-same7 = at-if7 .before in
-    let at-if6 = at-same7 .before .before in
-    let at-same6 = at-if6 .before in
-    let at-if5 = at-same6 .before .before in
-    let at-same5 = at-if5 .before in
-    let at-if4 = at-same5 .before .before in
-    let at-same4 = at-if4 .before in
-    let at-if3 = at-same4 .before .before in
-    let at-same3 = at-if3 .before in
-    let at-if2 = at-same3 .before .before in
-    let at-same2 = at-if2 .before in
-    let at-if1 = at-same2 .before .before in
-    let at-same = at-if1 .before in
-    let is-9 = sym (c .before .before .same9 .ensures) ∙ c .before .if9 .taken in
-    let not-8 = sym (at-same8 .same8 .ensures) ∙ at-if8 .if8 .left in
-    let not-7 = sym (at-same7 .same7 .ensures) ∙ at-if7 .if7 .left in
-    let not-6 = sym (at-same6 .same6 .ensures) ∙ at-if6 .if6 .left in
-    let not-5 = sym (at-same5 .same5 .ensures) ∙ at-if5 .if5 .left in
-    let not-4 = sym (at-same4 .same4 .ensures) ∙ at-if4 .if4 .left in
-    let not-3 = sym (at-same3 .same3 .ensures) ∙ at-if3 .if3 .left in
-    let not-2 = sym (at-same2 .same2 .ensures) ∙ at-if2 .if2 .left in
-    let not-1 = sym (at-same .same .ensures) ∙ at-if1 .if1 .left in
-    rw (not-1, not-2, not-3, not-4, not-5, not-6, not-7, not-8, is-9) (c .refill .ensures)
+    let tested = c .before .before in
+    holds (past-8 (tested .before .before)) (tested .same9 .ensures) (c .before .if9 .taken) (c .refill .ensures)
+
+abbrev past-9 : tie.Else9 → Past (drop 9 kinds)
+unfolding bytes
+past-9 c = fails (past-8 (c .before .before .before)) (c .before .same9 .ensures) (c .if9 .left)
 
 returns-10 : tie.Need-returns-10
-unfolding eventNamed bytes
-returns-10 c =
-    let at-if8 = c .before .before .before in
-    let at-same8 = at-if8 .before in
-    let at-if7 = at-same8 .before .before in
-    let at-same7 = at-if7 .before in
-    let at-if6 = at-same7 .before .before in
-    let at-same6 = at-if6 .before in
-    let at-if5 = at-same6 .before .before in
-    let at-same5 = at-if5 .before in
-    let at-if4 = at-same5 .before .before in
-    let at-same4 = at-if4 .before in
-    let at-if3 = at-same4 .before .before in
-    let at-same3 = at-if3 .before in
-    let at-if2 = at-same3 .before .before in
-    let at-same2 = at-if2 .before in
-    let at-if1 = at-same2 .before .before in
-    let at-same = at-if1 .before in
-    let not-9 = sym (c .before .same9 .ensures) ∙ c .if9 .left in
-    let not-8 = sym (at-same8 .same8 .ensures) ∙ at-if8 .if8 .left in
-    let not-7 = sym (at-same7 .same7 .ensures) ∙ at-if7 .if7 .left in
-    let not-6 = sym (at-same6 .same6 .ensures) ∙ at-if6 .if6 .left in
-    let not-5 = sym (at-same5 .same5 .ensures) ∙ at-if5 .if5 .left in
-    let not-4 = sym (at-same4 .same4 .ensures) ∙ at-if4 .if4 .left in
-    let not-3 = sym (at-same3 .same3 .ensures) ∙ at-if3 .if3 .left in
-    let not-2 = sym (at-same2 .same2 .ensures) ∙ at-if2 .if2 .left in
-    let not-1 = sym (at-same .same .ensures) ∙ at-if1 .if1 .left in
-    rw (not-1, not-2, not-3, not-4, not-5, not-6, not-7, not-8, not-9) refl
+unfolding bytes
+returns-10 c = sym (past-9 c .is)
 
 pub named-spec : {M : Type 1} → statement M
 named-spec =
     tie.close
     (tie.spec
-    slice-aggregate-same
-    same-requires
-    create-requires
-    returns
-    slice-aggregate-same-2
-    same-requires-2
-    give-requires
-    returns-2
-    slice-aggregate-same-3
-    same-requires-3
-    call-requires
-    returns-3
-    slice-aggregate-same-4
-    same-requires-4
-    alone-requires
-    returns-4
-    slice-aggregate-same-5
-    same-requires-5
-    alone-requires-2
-    returns-5
-    slice-aggregate-same-6
-    same-requires-6
-    wake-requires
-    returns-6
-    slice-aggregate-same-7
-    same-requires-7
-    charge-requires
-    returns-7
-    slice-aggregate-same-8
-    same-requires-8
-    abort-requires
-    returns-8
-    slice-aggregate-same-9
-    same-requires-9
-    refill-requires
-    returns-9
+    (λ c. search needs) (λ _ _. tt) (λ _ _. tt) returns
+    (λ c. search needs) (λ _ _. tt) (λ _ _. tt) returns-2
+    (λ c. search needs) (λ _ _. tt) (λ _ _. tt) returns-3
+    (λ c. search needs) (λ _ _. tt) (λ _ _. tt) returns-4
+    (λ c. search needs) (λ _ _. tt) (λ _ _. tt) returns-5
+    (λ c. search needs) (λ _ _. tt) (λ _ _. tt) returns-6
+    (λ c. search needs) (λ _ _. tt) (λ _ _. tt) returns-7
+    (λ c. search needs) (λ _ _. tt) (λ _ _. tt) returns-8
+    (λ c. search needs) (λ _ _. tt) (λ _ _. tt) returns-9
     returns-10)
