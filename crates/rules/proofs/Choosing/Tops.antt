@@ -31,16 +31,17 @@ queue-none s e = top-none (s .slices) (λ u. inQueue (placeAt (s .places) u)) (s
 pub is-queued : {p : Place} → p ≡ Queue → inQueue p ≡ true
 is-queued e = ap inQueue e
 
--- a timeslice put aside may not run
+-- a timeslice put aside may not run: its chain's end does not let it
+held-back : (s : State) (u : ℕ) → lets (verdict (s .threads) (chainOf (s .threads) (s .slices) u)) ≡ false
+    → mayRun (s .threads) (s .slices) u ≡ false
+held-back s u e = and-false-left (lets (verdict (s .threads) (chainOf (s .threads) (s .slices) u))) _ e
+
 waits-idle : (s : State) → Mid s → (u n : ℕ) → member u (s .order) ≡ true → Waits (s .threads) (owner s u) n
     → mayRun (s .threads) (s .slices) u ≡ false
-waits-idle s x u n h w =
-    and-false-left (lets (verdict (s .threads) (chainOf (s .threads) (s .slices) u))) _
-    (ap lets (waits-walk (x .shape .sane) (owner-live s (x .shape) u h) w .0))
+waits-idle s x u n h w = held-back s u (ap lets (waits-walk (x .shape .sane) (owner-live s (x .shape) u h) w .0))
 
 stalls-idle : (s : State) (u : ℕ) → Stalls (s .threads) (owner s u) → mayRun (s .threads) (s .slices) u ≡ false
-stalls-idle s u never =
-    and-false-left (lets (verdict (s .threads) (chainOf (s .threads) (s .slices) u))) _ (ap lets (stalls-walk (s .threads) (owner s u) never))
+stalls-idle s u never = held-back s u (ap lets (stalls-walk (s .threads) (owner s u) never))
 
 -- nothing is left of a Spent one, and something of every other
 spent-idle : (s : State) → Mid s → (u : ℕ) → member u (s .order) ≡ true → placeAt (s .places) u ≡ Spent
