@@ -4,7 +4,8 @@
 # The time of KEY_PROGRAM against oracle/straight.rs and oracle/key.rs: same machine, same files, best of RUNS (default 15) runs
 # that take turns. Times are of whole processes, start, reading and printing included; nothing is
 # subtracted. Not part of any timed test. Stops after 20 seconds for each of RUNS.
-# With BEFORE, a key program from before request [2], the time is against that one, on files in which no timeslice is depleted.
+# With BEFORE, an earlier key program, the time is against that one, on files in which no timeslice is depleted: BEFORE may be
+# from before request [2]. No file here has a remove: all are as they were before request [3].
 set -euo pipefail
 export LC_ALL=C
 [ $# -ge 1 ] || { echo "bench.sh KEY_PROGRAM [RUNS [BEFORE]]" >&2; exit 2; }

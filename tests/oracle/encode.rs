@@ -12,6 +12,7 @@
 //! charge AMOUNT
 //! abort THREAD
 //! refill TIMESLICE
+//! remove THREAD
 //! ```
 
 use std::io::{Read, Write};
@@ -37,6 +38,7 @@ fn event(words: &[&str]) -> Option<Vec<u8>> {
         }
         ["abort", thread] => vec![8, byte(thread)?],
         ["refill", timeslice] => vec![9, byte(timeslice)?],
+        ["remove", thread] => vec![10, byte(thread)?],
         _ => return None,
     })
 }

@@ -1,11 +1,11 @@
-//! The key program of document 01 with request [2]: the dispatcher with places, changed in place.
+//! The key program of document 01 with requests [2] and [3]: the dispatcher with places, changed in place.
 //!
 //! `key` reads an event file from standard input and prints its key.
 //! `key -o FOLDER FILE...` writes the key of each file to FOLDER, under the file's own name.
 //!
 //! Built for speed, as the opponent in `bench.sh`: fixed arrays, timeslices stored in turn order so
 //! that "topmost of a set" is one pass over neighbouring numbers, no allocation while events run,
-//! one write at the end. `make.rs` uses the machine as a module.
+//! one write at the end. `make.rs` and `count.rs` use the machine as a module.
 
 use std::io::{Read, Write};
 
@@ -74,11 +74,11 @@ const fn accept(links: u32) -> Answer {
     Answer { refusal: 0, links }
 }
 
-struct Walk {
-    end: usize,
+pub struct Walk {
+    pub end: usize,
     /// The thread whose link leads to the end; if the end is Idle, the last helper.
     last: usize,
-    links: u32,
+    pub links: u32,
     count: u32,
 }
 
@@ -131,9 +131,19 @@ impl Machine {
         (0..self.slices).filter(|i| places.contains(&self.place[*i])).map(|i| self.slice[i].number).collect()
     }
 
+    /// The thread's own timeslice: where it stands in turn order.
+    fn own(&self, thread: u8) -> Option<usize> {
+        self.slice[..self.slices].iter().position(|s| s.owner == thread)
+    }
+
+    /// The number and the place of the thread's own timeslice.
+    pub fn owned(&self, thread: u8) -> Option<(u8, Place)> {
+        self.own(thread).map(|at| (self.slice[at].number, self.place[at]))
+    }
+
     /// "The walk": at most L links, and L links are a loop.
     #[inline]
-    fn walk(&self, from: usize) -> Walk {
+    pub fn walk(&self, from: usize) -> Walk {
         let mut w = Walk { end: from, last: from, links: 0, count: 0 };
         loop {
             let t = self.threads[w.end & 127];
@@ -427,10 +437,79 @@ impl Machine {
             accept(0)
         }
     }
+
+    pub fn remove(&mut self, thread: u8) -> Answer {
+        if thread > 127 {
+            return refuse(2);
+        }
+        let n = thread as usize;
+        let t = self.threads[n];
+        if t.role == NONE {
+            return refuse(4);
+        }
+        // What the walk met is asked before anything changes: the end may be the thread itself.
+        let w = self.walk(n);
+        let looped = w.links == self.live;
+        let blocked = self.threads[w.end].hold == Hold::Blocked;
+        if let Some(at) = self.own(thread) {
+            self.strike(at);
+        }
+        for other in &mut self.threads {
+            if other.hold >= Hold::Calling && other.to == thread {
+                other.hold = Hold::Ready;
+            }
+        }
+        if t.hold == Hold::Calling {
+            self.threads[t.to as usize & 127].service = ORPHAN;
+        }
+        if looped {
+            self.release(STALLED);
+        } else if blocked {
+            self.release(ON + w.end as Place);
+        }
+        self.threads[n] = FREE;
+        self.owns[n] = false;
+        self.live -= 1;
+        accept(w.links + self.choose())
+    }
+
+    /// Strikes a timeslice out, whatever its place, and releases its followers. `self.at` may be wrong
+    /// then: a choice follows.
+    fn strike(&mut self, at: usize) {
+        let (number, n) = (self.slice[at].number, self.slices);
+        self.size[self.place[at] as usize] -= 1;
+        self.place.copy_within(at + 1..n, at);
+        self.priority.copy_within(at + 1..n, at);
+        self.slice.copy_within(at + 1..n, at);
+        self.slices = n - 1;
+        self.slice_used[number as usize] = false;
+        self.release(BEHIND + number as Place);
+    }
+
+    /// The first of the records, if there is one: its answer, and the records after it. The file has
+    /// been checked: every record is whole and its length fits its kind.
+    #[inline]
+    pub fn next<'a>(&mut self, records: &'a [u8]) -> Option<(Answer, &'a [u8])> {
+        Some(match records {
+            [_, 1, thread, role, tail @ ..] => (self.create(*thread, *role), tail),
+            [_, 2, number, thread, priority, high, low, tail @ ..] => {
+                (self.give(*number, *thread, *priority, u16::from_be_bytes([*high, *low])), tail)
+            }
+            [_, 3, server, tail @ ..] => (self.call(*server), tail),
+            [_, 4, tail @ ..] => (self.reply(), tail),
+            [_, 5, tail @ ..] => (self.block(), tail),
+            [_, 6, thread, tail @ ..] => (self.wake(*thread), tail),
+            [_, 7, high, low, tail @ ..] => (self.charge(u16::from_be_bytes([*high, *low])), tail),
+            [_, 8, thread, tail @ ..] => (self.abort(*thread), tail),
+            [_, 9, number, tail @ ..] => (self.refill(*number), tail),
+            [_, 10, thread, tail @ ..] => (self.remove(*thread), tail),
+            _ => return None,
+        })
+    }
 }
 
 /// The length byte of a record, by kind.
-const LENGTH: [u8; 10] = [0, 3, 6, 2, 1, 1, 2, 3, 2, 2];
+const LENGTH: [u8; 11] = [0, 3, 6, 2, 1, 1, 2, 3, 2, 2, 2];
 
 /// Checks a file whole and hands back its records; 14, 15 or 16 where it is refused.
 pub fn check(file: &[u8]) -> Result<&[u8], u8> {
@@ -448,7 +527,7 @@ pub fn check(file: &[u8]) -> Result<&[u8], u8> {
     let mut rest = records;
     while let [length, tail @ ..] = rest {
         match tail {
-            [kind @ 1..=9, ..] if LENGTH[*kind as usize] == *length && *length as usize <= tail.len() => {
+            [kind @ 1..=10, ..] if LENGTH[*kind as usize] == *length && *length as usize <= tail.len() => {
                 if *kind == 1 && tail[2] > 1 {
                     return Err(16);
                 }
@@ -556,49 +635,9 @@ pub fn key(file: &[u8]) -> Vec<u8> {
     };
     let mut text = Text::new(rest.len() / 2);
     let mut m = Machine::new();
-    // The file has been checked: every record is whole and its length fits its kind.
-    loop {
-        let answer;
-        match rest {
-            [_, 1, thread, role, tail @ ..] => {
-                answer = m.create(*thread, *role);
-                rest = tail;
-            }
-            [_, 2, number, thread, priority, high, low, tail @ ..] => {
-                answer = m.give(*number, *thread, *priority, u16::from_be_bytes([*high, *low]));
-                rest = tail;
-            }
-            [_, 3, server, tail @ ..] => {
-                answer = m.call(*server);
-                rest = tail;
-            }
-            [_, 4, tail @ ..] => {
-                answer = m.reply();
-                rest = tail;
-            }
-            [_, 5, tail @ ..] => {
-                answer = m.block();
-                rest = tail;
-            }
-            [_, 6, thread, tail @ ..] => {
-                answer = m.wake(*thread);
-                rest = tail;
-            }
-            [_, 7, high, low, tail @ ..] => {
-                answer = m.charge(u16::from_be_bytes([*high, *low]));
-                rest = tail;
-            }
-            [_, 8, thread, tail @ ..] => {
-                answer = m.abort(*thread);
-                rest = tail;
-            }
-            [_, 9, number, tail @ ..] => {
-                answer = m.refill(*number);
-                rest = tail;
-            }
-            _ => break,
-        }
+    while let Some((answer, tail)) = m.next(rest) {
         text.line(&m, answer);
+        rest = tail;
     }
     text.bytes.truncate(text.used);
     text.bytes

@@ -2,7 +2,7 @@
 //!
 //! Kinds:
 //! - `lively`: random lists that keep threads running, calling, helping, blocking, waking,
-//!   aborting, charging and refilling; 3 to 128 threads, many equal priorities, refusals 2 to 13 and 18;
+//!   aborting, charging, refilling and removing; 3 to 128 threads, many equal priorities, refusals 2 to 13 and 18;
 //! - `chain`: long chains of donation and helping links, up to 127, and loops;
 //! - `damaged`: files with a fault for the reader (14, 15, 16), and the borders beside them;
 //! - `full`: 128 threads, each with a timeslice, a file of 65,536 bytes;
@@ -11,6 +11,8 @@
 //!   links, over and over, a file of 65,536 bytes;
 //! - `full-undepleted`, `small-undepleted`, `chainN-undepleted`: the same, but no charge reaches 0 and
 //!   nothing is refilled, for a program from before request [2].
+//!
+//! From `full` on no kind has a remove: those files are also for a program from before request [3].
 //!
 //! The machine of `key.rs` runs along, so that the next event can be chosen by what would happen.
 
@@ -61,6 +63,7 @@ enum Event {
     Charge(u16),
     Abort(u8),
     Refill(u8),
+    Remove(u8),
 }
 use Event::*;
 
@@ -75,6 +78,7 @@ fn record(e: Event) -> Vec<u8> {
         Charge(c) => vec![3, 7, (c >> 8) as u8, c as u8],
         Abort(t) => vec![2, 8, t],
         Refill(s) => vec![2, 9, s],
+        Remove(t) => vec![2, 10, t],
     }
 }
 
@@ -94,8 +98,8 @@ struct Profile {
     /// Calls among a hundred that go to a server with a higher number than the caller's. Such calls
     /// alone make no loop.
     upward: usize,
-    /// Weights of call, reply, block, wake, charge, abort, refill.
-    weights: [usize; 7],
+    /// Weights of call, reply, block, wake, charge, abort, refill, remove.
+    weights: [usize; 8],
 }
 
 struct List {
@@ -122,6 +126,7 @@ impl List {
             Charge(c) => m.charge(c),
             Abort(t) => m.abort(t),
             Refill(s) => m.refill(s),
+            Remove(t) => m.remove(t),
         };
         self.bytes.extend(record(e));
     }
@@ -180,6 +185,30 @@ impl List {
         self.random.pick(&spent).map(Refill)
     }
 
+    /// A thread to remove: first what it is to the others is drawn, so that none of these is rare.
+    fn remove(&mut self) -> Option<Event> {
+        let what = self.random.below(9);
+        let m = &self.machine;
+        let wanted = |n: &u8| {
+            let linked = m.threads[*n as usize].hold >= Hold::Calling;
+            let called = m.threads.iter().any(|t| t.hold >= Hold::Calling && t.to == *n);
+            let own = m.owned(*n);
+            match what {
+                0 => *n == m.running,
+                1 => own.is_some_and(|(number, _)| number == m.current),
+                2 => m.threads[*n as usize].hold == Hold::Blocked,
+                3 => linked,
+                4 => called,
+                5 => linked && called,
+                6 => own.is_some_and(|(_, place)| place == STALLED),
+                7 => own.is_some_and(|(_, place)| place == SPENT),
+                _ => true,
+            }
+        };
+        let from: Vec<u8> = self.threads(|_| true).into_iter().filter(wanted).collect();
+        self.random.pick(&from).map(Remove)
+    }
+
     /// A timeslice that is not Spent: first the place is drawn, so that none of the four is rare.
     fn unspent(&mut self) -> Option<u8> {
         let place = self.random.pick(&[QUEUE, STALLED, ON, BEHIND])?;
@@ -192,11 +221,14 @@ impl List {
     /// An event that is accepted now, if the dice find one.
     fn sensible(&mut self) -> Option<Event> {
         let m = &self.machine;
-        if m.live < self.profile.threads as u32 && self.random.percent(4) {
+        let removes = self.profile.weights[7];
+        // Where threads are removed others come, with the freed numbers: the machine stays full.
+        let often = 4 + 2 * removes;
+        if m.live < self.profile.threads as u32 && self.random.percent(often) {
             let t = self.free_thread()?;
             return Some(Create(t, self.role()));
         }
-        if m.slices < self.profile.slices && self.random.percent(4) {
+        if m.slices < self.profile.slices && self.random.percent(often) {
             return self.give();
         }
         let running = m.running;
@@ -204,10 +236,13 @@ impl List {
         let linked = self.threads(|t| t.hold >= Hold::Calling);
         let (spent, slices) = (self.spent().len(), m.slices.max(1));
         if running == NONE {
-            // Nothing runs: only wake, abort, refill, or give and perhaps create before it, can change that.
+            // Nothing runs: only wake, abort, refill, remove, or give and perhaps create before it, can change that.
             // If all are Spent, a wake or an abort is of no use.
             if self.random.below(slices) < spent && self.random.percent(80) {
                 return self.refill();
+            }
+            if removes > 0 && self.random.percent(3 * removes) {
+                return self.remove();
             }
             return match self.random.below(10) {
                 0..=5 if !blocked.is_empty() => self.random.pick(&blocked).map(Wake),
@@ -242,6 +277,7 @@ impl List {
             4 => self.charge(),
             5 => self.random.pick(&linked).map(Abort),
             6 => self.refill(),
+            7 => self.remove(),
             _ => None,
         }
     }
@@ -257,23 +293,25 @@ impl List {
         let owners: Vec<u8> = (0..128u8).filter(|n| self.machine.owns[*n as usize]).collect();
         let priority = self.random.pick(&self.profile.priorities)?;
         Some(match self.random.below(19) {
-            2 => match self.random.below(7) {
+            2 => match self.random.below(8) {
                 0 => Create(high, self.role()),
                 1 => Give(high, some, priority, 5),
                 2 => Give(self.free_slice().unwrap_or(any), high, priority, self.random.below(2) as u16),
                 3 => Call(high),
                 4 => Wake(high),
                 5 => Abort(high),
-                _ => Refill(high),
+                6 => Refill(high),
+                _ => Remove(high),
             },
             3 if self.random.percent(50) => Create(some, self.role()),
             3 => Give(self.random.pick(&used)?, self.random.pick(&[some, free, high])?, priority, self.random.below(2) as u16),
-            4 => match self.random.below(5) {
+            4 => match self.random.below(6) {
                 0 => Give(self.free_slice()?, free, priority, self.random.below(2) as u16),
                 1 => Call(free),
                 2 => Wake(free),
                 3 => Abort(free),
-                _ => Refill(self.free_slice()?),
+                4 => Refill(self.free_slice()?),
+                _ => Remove(free),
             },
             5 if runs == NONE => match self.random.below(4) {
                 0 => Call(self.random.pick(&[some, free, high])?),
@@ -292,6 +330,7 @@ impl List {
             14 => Wake(any),
             15 => Abort(any),
             16 => Refill(any),
+            17 => Remove(any),
             18 => Refill(self.unspent()?),
             _ => Call(any),
         })
@@ -349,7 +388,16 @@ fn lively(seed: u64) -> List {
         depletes: true,
         wrong: r.pick(&[0, 5, 10, 30]).unwrap(),
         upward: r.pick(&[0, 50, 90, 100]).unwrap(),
-        weights: [r.range(10, 40), r.range(5, 30), r.range(2, 20), r.range(2, 20), r.range(2, 20), r.range(1, 15), r.range(2, 20)],
+        weights: [
+            r.range(10, 40),
+            r.range(5, 30),
+            r.range(2, 20),
+            r.range(2, 20),
+            r.range(2, 20),
+            r.range(1, 15),
+            r.range(2, 20),
+            r.pick(&[0, 1, 3, 6]).unwrap(),
+        ],
     };
     let steps = match r.below(4) {
         0 => r.range(10, 60),
@@ -386,14 +434,15 @@ fn chain(seed: u64) -> List {
     let clients = r.range(1, (128 - servers).min(5));
     let profile = Profile {
         threads: servers + clients,
-        servers: 100,
+        // Of those that come for removed ones; a client among them can begin a chain.
+        servers: 80,
         slices: servers + clients,
         priorities: priorities(&mut r),
         quantum: 4,
         depletes: true,
         wrong: 3,
         upward: 90,
-        weights: [60, 8, 3, 6, 6, 5, 5],
+        weights: [60, 8, 3, 6, 6, 5, 5, 2],
     };
     let mut list = List::new(seed, profile);
     for t in 0..clients {
@@ -429,7 +478,7 @@ fn chain(seed: u64) -> List {
         for _ in 0..r.range(1, 12) {
             let linked = list.threads(|t| t.hold >= Hold::Calling);
             let blocked = list.threads(|t| t.hold == Hold::Blocked);
-            match r.below(10) {
+            match r.below(11) {
                 0 => list.add(Block),
                 1..=2 => {
                     if let Some(t) = r.pick(&blocked) {
@@ -458,6 +507,11 @@ fn chain(seed: u64) -> List {
                 }
                 8 => {
                     if let Some(e) = list.refill() {
+                        list.add(e)
+                    }
+                }
+                9 => {
+                    if let Some(e) = list.remove() {
                         list.add(e)
                     }
                 }
@@ -513,7 +567,7 @@ fn damaged(seed: u64, index: usize) -> Vec<u8> {
         12 => f[r.below(4)] ^= 1 << r.below(8),
         13 => f[..4].copy_from_slice(&[255; 4]),
         14 => f[4] = r.pick(&[0, 2, 3, 128, 255]).unwrap(),
-        15 => f[start + 1] = r.pick(&[0, 10, 11, 129, 255]).unwrap(),
+        15 => f[start + 1] = r.pick(&[0, 11, 12, 129, 255]).unwrap(),
         16 => f[start] = f[start].wrapping_add(r.pick(&[1, 255, 128]).unwrap()),
         17 => f[start] = 0,
         18 => {
@@ -530,9 +584,10 @@ fn damaged(seed: u64, index: usize) -> Vec<u8> {
                 f.push(0)
             }
         }
-        // The kind of refill with the operands of another: good where that has one byte.
+        // The kind of refill or remove with the operands of another: good where that has one byte.
         20 => f[start + 1] = 9,
-        21 | 22 => {
+        21 => f[start + 1] = 10,
+        22 => {
             for _ in 0..r.range(1, 4) {
                 let i = r.below(f.len());
                 f[i] ^= 1 << r.below(8);
@@ -540,7 +595,7 @@ fn damaged(seed: u64, index: usize) -> Vec<u8> {
         }
         23 => {
             // A good record begins, but the file ends within it.
-            let e = r.pick(&[Create(1, 1), Give(1, 1, 1, 1), Call(1), Wake(1), Charge(1), Abort(1), Refill(1)]).unwrap();
+            let e = r.pick(&[Create(1, 1), Give(1, 1, 1, 1), Call(1), Wake(1), Charge(1), Abort(1), Refill(1), Remove(1)]).unwrap();
             let whole = record(e);
             f.extend(&whole[..r.range(1, whole.len() - 1)]);
             set_length(&mut f)
@@ -578,7 +633,7 @@ fn damaged(seed: u64, index: usize) -> Vec<u8> {
             let n = r.range(0, 40);
             f.truncate(5);
             for _ in 0..n {
-                f.push(r.below(10) as u8);
+                f.push(r.below(11) as u8);
             }
             set_length(&mut f)
         }
@@ -598,7 +653,7 @@ fn full(seed: u64, depletes: bool) -> List {
         depletes,
         wrong: 0,
         upward: 100,
-        weights: [30, 22, 4, 8, 12, 3, 6],
+        weights: [30, 22, 4, 8, 12, 3, 6, 0],
     };
     let mut list = List::new(seed, profile);
     for t in 0..128u8 {
@@ -622,7 +677,7 @@ fn small(seed: u64, depletes: bool) -> List {
         depletes,
         wrong: 0,
         upward: 99,
-        weights: [30, 22, 4, 8, 12, 3, 6],
+        weights: [30, 22, 4, 8, 12, 3, 6, 0],
     };
     let mut list = List::new(seed, profile);
     for t in 0..6u8 {
@@ -649,7 +704,7 @@ fn chain_of(seed: u64, links: u8, depletes: bool) -> List {
         depletes,
         wrong: 0,
         upward: 0,
-        weights: [1; 7],
+        weights: [0; 8],
     };
     let mut list = List::new(seed, profile);
     list.add(Create(0, CLIENT));

@@ -1,4 +1,4 @@
-//! The plain machine of document 01 with request [2]. It has no places, no release and no choice: after every
+//! The plain machine of document 01 with requests [2] and [3]. It has no places, no release and no choice: after every
 //! accepted event it judges all live timeslices afresh. It prints the key without its last column
 //! (links followed), which the plain machine does not define.
 //!
@@ -21,6 +21,7 @@ enum Event {
     Charge { amount: u16 },
     Abort { thread: u8 },
     Refill { timeslice: u8 },
+    Remove { thread: u8 },
 }
 
 /// "Reading a file". The rules for 16 are the same whichever of them is broken first.
@@ -66,6 +67,7 @@ fn read(file: &[u8]) -> Result<Vec<Event>, u8> {
             (7, 3) => Event::Charge { amount: two(1) },
             (8, 2) => Event::Abort { thread: record[1] },
             (9, 2) => Event::Refill { timeslice: record[1] },
+            (10, 2) => Event::Remove { thread: record[1] },
             _ => return Err(16),
         });
         at += 1 + length;
@@ -284,6 +286,15 @@ impl Plain {
                     0
                 }
             }
+            Event::Remove { thread } => {
+                if thread > 127 {
+                    2
+                } else if !self.threads.contains_key(&thread) {
+                    4
+                } else {
+                    0
+                }
+            }
         }
     }
 
@@ -344,6 +355,19 @@ impl Plain {
             Event::Refill { timeslice } => {
                 let t = self.timeslices.get_mut(&timeslice).unwrap();
                 t.left = t.quantum;
+            }
+            Event::Remove { thread } => {
+                let removed = self.threads.remove(&thread).unwrap();
+                self.timeslices.retain(|_, t| t.owner != thread);
+                self.turn_order.retain(|s| self.timeslices.contains_key(s));
+                for t in self.threads.values_mut() {
+                    if t.hold == Hold::Calling(thread) || t.hold == Hold::Helping(thread) {
+                        t.hold = Hold::Ready;
+                    }
+                }
+                if let Hold::Calling(server) = removed.hold {
+                    self.threads.get_mut(&server).unwrap().service = Service::Orphan;
+                }
             }
         }
     }

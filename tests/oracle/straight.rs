@@ -1,4 +1,4 @@
-//! A second opponent for `bench.sh`: document 01's machine, with request [2], in its own layout, tables of thread and timeslice
+//! A second opponent for `bench.sh`: document 01's machine, with requests [2] and [3], in its own layout, tables of thread and timeslice
 //! records by number and the turn order beside them, changed in place. The turn order is scanned once for a
 //! choice and once for each release; nothing is kept to save a scan. `key.rs` is tuned further.
 
@@ -51,6 +51,9 @@ struct Timeslice {
     place: Place,
 }
 
+const FREE_THREAD: Thread = Thread { live: false, server: false, hold: Hold::Ready, service: Service::Nobody };
+const FREE_TIMESLICE: Timeslice = Timeslice { live: false, owner: 0, priority: 0, quantum: 0, left: 0, place: Place::Queue };
+
 struct Running {
     thread: u8,
     timeslice: u8,
@@ -76,9 +79,8 @@ struct Walk {
 
 impl Machine {
     fn new() -> Machine {
-        let thread = Thread { live: false, server: false, hold: Hold::Ready, service: Service::Nobody };
-        let timeslice = Timeslice { live: false, owner: 0, priority: 0, quantum: 0, left: 0, place: Place::Queue };
-        Machine { threads: [thread; 128], timeslices: [timeslice; 128], order: [0; 128], live: 0, slices: 0, running: None }
+        let (threads, timeslices) = ([FREE_THREAD; 128], [FREE_TIMESLICE; 128]);
+        Machine { threads, timeslices, order: [0; 128], live: 0, slices: 0, running: None }
     }
 
     fn walk(&self, from: u8) -> Walk {
@@ -201,6 +203,11 @@ impl Machine {
         Ok(0)
     }
 
+    /// Where the thread's own timeslice stands in turn order.
+    fn own(&self, n: u8) -> Option<usize> {
+        self.order[..self.slices].iter().position(|&t| self.timeslices[t as usize].owner == n)
+    }
+
     fn give(&mut self, t: u8, n: u8, priority: u8, quantum: u16) -> Result<usize, u8> {
         if t > 127 || n > 127 {
             return Err(2);
@@ -211,7 +218,7 @@ impl Machine {
         if !self.threads[n as usize].live {
             return Err(4);
         }
-        if self.order[..self.slices].iter().any(|&u| self.timeslices[u as usize].owner == n) {
+        if self.own(n).is_some() {
             return Err(13);
         }
         if quantum == 0 {
@@ -342,6 +349,41 @@ impl Machine {
         x.place = Place::Queue;
         self.joined(Some(t))
     }
+
+    fn remove(&mut self, n: u8) -> Result<usize, u8> {
+        if n > 127 {
+            return Err(2);
+        }
+        let thread = self.threads[n as usize];
+        if !thread.live {
+            return Err(4);
+        }
+        let w = self.walk(n);
+        let blocked = self.threads[w.end as usize].hold == Hold::Blocked;
+        if let Some(at) = self.own(n) {
+            let t = self.order[at];
+            self.order.copy_within(at + 1..self.slices, at);
+            self.slices -= 1;
+            self.timeslices[t as usize] = FREE_TIMESLICE;
+            self.release(Place::Behind(t));
+        }
+        for other in &mut self.threads {
+            if other.hold == Hold::Calling(n) || other.hold == Hold::Helping(n) {
+                other.hold = Hold::Ready;
+            }
+        }
+        if let Hold::Calling(s) = thread.hold {
+            self.threads[s as usize].service = Service::Orphan;
+        }
+        if w.looped {
+            self.release(Place::Stalled);
+        } else if blocked {
+            self.release(Place::On(w.end));
+        }
+        self.threads[n as usize] = FREE_THREAD;
+        self.live -= 1;
+        Ok(w.links + self.choose())
+    }
 }
 
 fn number(out: &mut Vec<u8>, n: usize) {
@@ -370,7 +412,8 @@ fn key(file: &[u8]) -> Vec<u8> {
             6 => m.wake(tail[0]),
             7 => m.charge(word(0)),
             8 => m.abort(tail[0]),
-            _ => m.refill(tail[0]),
+            9 => m.refill(tail[0]),
+            _ => m.remove(tail[0]),
         };
         rest = &rest[1 + *length as usize..];
         event += 1;

@@ -1,5 +1,5 @@
 -- The stored machine after an event's changes shows the state after them, and is stored.
-use Prim.Native.Nat.{ℕ, suc, _+_, _<_}
+use Prim.Native.Nat.{ℕ, suc, _+_, _≤_, _<_}
 use mathlib.Core.Path.{_≡_, refl, sym, _∙_, ap, ap₂}
 use mathlib.Core.List.{List}
 use mathlib.Core.Bool.{true, false}
@@ -13,12 +13,16 @@ use Rattle.rules.specs.declared.Service.the-variants.{Nobody}
 use Rattle.rules.specs.Sound.{isIdle}
 use Rattle.rules.specs.Events.{callDonates, callHelps, callAt}
 use Rattle.rules.specs.declared.Thread.{Thread}
+use Rattle.rules.specs.declared.Chain.{Chain}
 use Rattle.rules.specs.declared.Running.{Running}
 use Rattle.rules.specs.State.{State, threadAt, liveThreads, withThreads, withRunning}
+use Rattle.rules.specs.Walk.{walk}
 use Rattle.rules.specs.Threads.{startsAs, created}
 use Rattle.dispatcher.specs.declared.Machine.{Machine}
 use Rattle.dispatcher.specs.Shown.{shown, stored}
 use Rattle.dispatcher.specs.Choosing.{Choosable}
+use Rattle.rules.proofs.Bounds.{live-most}
+use Rattle.rules.proofs.Links.Chains.{walk-links}
 use Rattle.rules.proofs.Tables.Writes.{created-made}
 use Rattle.dispatcher.proofs.Stored.{live-is, stored-with}
 
@@ -41,6 +45,12 @@ threads-shown m ths ths′ e = ap (λ (l : List Thread). withThreads l (shown m)
 pub threads-exact : (m : Machine) (ths ths′ : List Thread) → stored m ≡ true → ths ≡ ths′ → liveThreads ths′ ≡ liveThreads (m .threads)
     → stored (threadsTo ths m) ≡ true
 threads-exact m ths ths′ ok e l = stored-with m ok (threadsTo ths m) refl refl (live-is m ok ∙ sym l ∙ sym (ap liveThreads e))
+
+-- a walk over the threads of a machine follows few links
+pub few-links : (ts : List Thread) (n : ℕ) (c : Chain) → length ts ≡ 128 → c ≡ walk ts n → c .links ≤ 128
+few-links ts n c full is =
+    let most : c .links ≤ liveThreads ts = rw is (walk-links ts n) in
+    omega (arith, most, live-most ts)
 
 -- a new thread
 module _ (m : Machine) (k n : ℕ) (r : Role) (h : Hold) (at : k ≡ n) (starts : h ≡ startsAs r) where

@@ -1,5 +1,5 @@
--- Give, charge, refill and abort: the stored machine after their changes shows the state after them, and is stored.
-use Prim.Native.Nat.{ℕ, _+_, _-_, _<_}
+-- Give, charge, refill, abort and remove: the stored machine after their changes shows the state after them, and is stored.
+use Prim.Native.Nat.{ℕ, suc, _+_, _-_, _≤_, _<_}
 use mathlib.Core.Path.{_≡_, refl, sym, _∙_, ap, ap₂, subst}
 use mathlib.Core.List.{List, [], _∷_, _++_, map}
 use mathlib.Core.Bool.{Bool, true, false, cond}
@@ -9,29 +9,30 @@ use native.Mathlib.Numerals.{add-one}
 use lib.ListN.{length, getD, set, take}
 use lib.Dec.{eqb}
 use borrow.Author.Tests.{eq-eqb, ne-eqb}
-use lib.Seq.{map-set-same, take-suc-set, getD-set-other}
+use lib.Seq.{map-set-same, take-suc-set, getD-set-other, length-take-le, take-append-seam, getD-take, take-take, getD-append-seam}
 use Rattle.rules.specs.declared.Thread.{Thread}
 use Rattle.rules.specs.declared.Place.{Place}
 use Rattle.rules.specs.declared.Place.the-variants.{Queue}
 use Rattle.rules.specs.declared.Chain.{Chain}
 use Rattle.rules.specs.declared.Running.the-variants.{Runs}
 use Rattle.rules.specs.declared.Timeslice.{Timeslice}
-use Rattle.rules.specs.State.{Slice, State, sliceAt, leftAt, holdAt, withThreads, withPlaces, withTimeslices}
+use Rattle.rules.specs.Tests.{member}
+use Rattle.rules.specs.State.{Slice, State, freeSlice, sliceAt, leftAt, withThreads, withPlaces, withTimeslices}
 use Rattle.rules.specs.Walk.{walk}
-use Rattle.rules.specs.Threads.{aborted}
-use Rattle.rules.specs.Timeslices.{withLeft, setLeft, given, last, charged, refilled}
-use Rattle.rules.specs.Release.{release}
-use Rattle.rules.specs.Sound.{isBlocked}
-use Rattle.rules.specs.Choice.{Outcome, choose}
-use Rattle.rules.specs.Events.{withGiven, releaseAbort, abortAfter, abort, depletes, spends, chargeBy, charge, withRefilled, overtakes}
-use Rattle.rules.specs.Events.{settleIf, settle}
+use Rattle.rules.specs.Timeslices.{withLeft, setLeft, given, last, without, charged, refilled, struck}
+use Rattle.rules.specs.Release.{behind, release}
+use Rattle.rules.specs.Choice.{Outcome, park, choose}
+use Rattle.rules.specs.Events.{withGiven, releaseWalked, afterWalk, endBlocked, strikeOut, depletes, spends, chargeBy, charge}
+use Rattle.rules.specs.Events.{withRefilled, overtakes, settleIf, settle}
 use Rattle.dispatcher.specs.declared.Machine.{Machine}
 use Rattle.dispatcher.specs.declared.Answered.{Answered}
 use Rattle.tables.specs.Timeslices.{sliceOf, placeOf, freeTimeslice}
 use Rattle.dispatcher.specs.Shown.{shown, stored}
 use Rattle.tables.specs.Releasing.{placesAfter, Replaced}
-use Rattle.tables.specs.Turning.{Turned}
+use Rattle.tables.specs.Turning.{Turned, StruckOut}
 use Rattle.dispatcher.specs.Choosing.{before, Settled, Chosen}
+use Rattle.rules.proofs.Basics.Views.{Same, equal, different, same}
+use Rattle.rules.proofs.Order.Orders.{length-without}
 use Rattle.tables.proofs.Lookups.{slice-at, map-set}
 use Rattle.tables.proofs.ReleaseLoop.{release-is}
 use Rattle.dispatcher.proofs.Stored.{live-is, turns-fit, free-zero, stored-of}
@@ -122,21 +123,92 @@ pub turned-exact : (m : Machine) (t : ℕ) (back : List ℕ) (ts : List Timeslic
 turned-exact m t back ts ok d =
     stored-of _ (live-is m ok) (turns-fit m ok) (λ k past fits. d .free k (omega arith) ∙ free-zero m ok k past fits)
 
--- an abort, by what its walk came to
-pub aborts : (m : Machine) (n : ℕ) (c : Chain) (k : ℕ) (m′ : Machine) (r : Answered) → c ≡ walk (m .threads) n → k ≡ c .links
-    → shown m′ ≡ releaseAbort (c .looped) (isBlocked (holdAt (m .threads) (c .end))) (c .end)
-    (withThreads (aborted n (m .threads)) (shown m))
-    → Chosen m′ k r → Settled (settle (abort n (shown m))) r
-unfolding abort abortAfter
-aborts m n c k m′ r is e shows ch =
-    subst (λ (o : Outcome). Settled (choose o) r)
-    (ap₂ (λ s l. record { state = s; links = l }) shows e
-    ∙ ap (λ (d : Chain). record {
-      state = releaseAbort (d .looped) (isBlocked (holdAt (m .threads) (d .end))) (d .end)
-          (withThreads (aborted n (m .threads)) (shown m));
-      links = d .links;
-    }) is)
-    ch
+-- a timeslice is struck out: its slot is free, and one entry of the turn order less is live
+module _ (m : Machine) (t : ℕ) (ok : stored m ≡ true) (full : length (m .order) ≡ 128)
+    (listed : member t (take (m .«live_timeslices») (m .order)) ≡ true) where
+  abbrev turns : List ℕ
+  turns = take (m .«live_timeslices») (m .order)
+
+  one-less : suc (length (without t turns)) ≡ m .«live_timeslices»
+  one-less =
+      length-without t turns listed ∙ length-take-le (m .«live_timeslices») (m .order) (omega (arith, turns-fit m ok))
+
+  pub some-live : 1 ≤ m .«live_timeslices»
+  some-live = omega (arith, one-less)
+
+  module _ (rest : List ℕ) (d : StruckOut t (m .«live_timeslices») (m .order) rest) where
+    -- what is left, and then 0
+    entries : take (m .«live_timeslices») rest ≡ without t turns ++ (0 ∷ [])
+    unfolding last
+    entries = rw listed at (d .turns)
+
+    rest-turns : take (m .«live_timeslices» - 1) rest ≡ without t turns
+    rest-turns =
+        let few : m .«live_timeslices» - 1 ≡ length (without t turns) = omega (arith, one-less) in
+        sym (take-take (m .«live_timeslices» - 1) (m .«live_timeslices») rest (omega arith))
+        ∙ ap (take (m .«live_timeslices» - 1)) entries ∙ ap (λ (k : ℕ). take k (without t turns ++ (0 ∷ []))) few
+        ∙ take-append-seam (without t turns) (0 ∷ [])
+
+    last-zero : getD rest (length (without t turns)) 0 ≡ 0
+    last-zero =
+        sym (getD-take (m .«live_timeslices») rest (length (without t turns)) 0 (omega (arith, one-less)))
+        ∙ ap (λ (l : List ℕ). getD l (length (without t turns)) 0) entries
+        ∙ getD-append-seam (without t turns) 0 [] 0
+
+    -- the machine with one entry less
+    abbrev pub fewer : List Timeslice → Machine
+    fewer ts =
+        record {
+          threads = m .threads;
+          timeslices = ts;
+          order = rest;
+          «live_threads» = m .«live_threads»;
+          «live_timeslices» = m .«live_timeslices» - 1;
+          running = m .running;
+        }
+
+    pub fewer-exact : (ts : List Timeslice) → stored (fewer ts) ≡ true
+    fewer-exact ts =
+        stored-of (fewer ts) (live-is m ok) (omega (arith, turns-fit m ok)) (λ k past fits. free k past fits (same k _))
+      where
+        free : (k : ℕ) → m .«live_timeslices» - 1 ≤ k → k < 128 → Same k (length (without t turns)) → getD rest k 0 ≡ 0
+        free k past fits (equal e _) = rw e last-zero
+        free k past fits (different o _) =
+            let after : m .«live_timeslices» ≤ k = omega (arith, one-less, o) in
+            d .free k (omega arith) ∙ free-zero m ok k after fits
+
+    -- the free slot, and the release of the followers
+    module _ (k : ℕ) (at : k ≡ t) (free : List Timeslice) where
+      abbrev pub cleared : List Timeslice
+      cleared = set (m .timeslices) k freeTimeslice
+
+      pub struck-shown :
+          Replaced cleared (placesAfter (behind t) (map sliceOf cleared) (take (m .«live_timeslices» - 1) rest) (map placeOf cleared)) free
+          → shown (fewer free) ≡ strikeOut (some t) (shown m)
+      unfolding park struck
+      struck-shown r =
+          let slices : map sliceOf cleared ≡ set (map sliceOf (m .timeslices)) t freeSlice =
+          map-set sliceOf (m .timeslices) k freeTimeslice ∙ ap (λ (j : ℕ). set (map sliceOf (m .timeslices)) j freeSlice) at in
+          let places : map placeOf cleared ≡ set (map placeOf (m .timeslices)) t Queue =
+          map-set placeOf (m .timeslices) k freeTimeslice ∙ ap (λ (j : ℕ). set (map placeOf (m .timeslices)) j Queue) at in
+          released-shown (fewer free) (behind t) _ _ cleared free _ _ rest _ refl slices places rest-turns r
+
+-- after a walk, by what it came to
+pub after-walk : (c : Chain) (b : Bool) (k : ℕ) (m : Machine) (s : State) (r : Answered) → k ≡ c .links
+    → shown m ≡ releaseWalked (c .looped) b (c .end) s → Chosen m k r → Settled (settle (afterWalk c b s)) r
+unfolding afterWalk
+after-walk c b k m s r e shows ch =
+    subst (λ (o : Outcome). Settled (choose o) r) (ap₂ (λ s l. record { state = s; links = l }) shows e) ch
+
+-- the walk from thread n, over the threads ts
+pub walked-from : (ts : List Thread) (n : ℕ) (c : Chain) (b : Bool) (s s′ : State) (r : Answered) → c ≡ walk ts n → b ≡ endBlocked c ts
+    → s ≡ s′ → Settled (settle (afterWalk c b s)) r
+    → let d = walk ts n in Settled (settle (afterWalk d (endBlocked d ts) s′)) r
+walked-from ts n c b s s′ r is e shows z =
+    let ends : b ≡ endBlocked (walk ts n) ts = e ∙ ap (λ (d : Chain). endBlocked d ts) is in
+    subst (λ (d : Chain). Settled (settle (afterWalk d (endBlocked (walk ts n) ts) s′)) r) is
+    (subst (λ (x : Bool). Settled (settle (afterWalk c x s′)) r) ends
+    (subst (λ (t : State). Settled (settle (afterWalk c b t)) r) shows z))
 
 -- the choice after a timeslice joined Queue
 pub joined-to : (t : ℕ) (m : Machine) (s : State) (r : Answered) → shown m ≡ s

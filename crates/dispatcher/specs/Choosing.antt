@@ -4,6 +4,7 @@ use mathlib.Core.Path.{_≡_}
 use mathlib.Core.Bool.{true}
 use Rattle.rules.specs.declared.Place.{Place}
 use Rattle.rules.specs.declared.Place.the-variants.{Behind, On, Stalled}
+use Rattle.rules.specs.State.{State}
 use Rattle.rules.specs.Choice.{Outcome, choose}
 use Rattle.dispatcher.specs.declared.Machine.{Machine}
 use Rattle.dispatcher.specs.declared.Answered.{Answered}
@@ -29,6 +30,11 @@ freedBy Stalls t end = Behind t
 pub record Choosable (m : Machine) (links : ℕ) : Type 0 where
   pub exact : stored m ≡ true
   pub few : links ≤ 128
+
+-- a stored machine that shows this state
+pub record Shows (s : State) (m : Machine) : Type 0 where
+  pub state : shown m ≡ s
+  pub exact : stored m ≡ true
 
 abbrev pub before : Machine → ℕ → Outcome
 before m links = record { state = shown m; links = links }

@@ -1,4 +1,4 @@
-// Document 01, "Events": the events on a sound machine, each in its module, and here the inner door to all.
+// Document 01, "Events", and document 02: the events on a sound machine, each in its module, and here the inner door to all.
 ghost use mathlib.Core.Path.{_≡_};
 ghost use mathlib.Core.Bool.{true};
 ghost use Rattle.rules.specs.Events.{dispatch};
@@ -15,6 +15,7 @@ mod charge;
 mod create;
 mod give;
 mod refill;
+mod remove;
 mod reply;
 mod wake;
 
@@ -40,6 +41,7 @@ impl Machine {
             Event::Charge { units } => self.dispatch_charge(units),
             Event::Abort { thread } => self.dispatch_abort(thread),
             Event::Refill { timeslice } => self.dispatch_refill(timeslice),
+            Event::Remove { thread } => self.dispatch_remove(thread),
         }
     }
 }

@@ -32,7 +32,8 @@ fn listed(place: u8) -> Event {
         6 => Event::Wake { thread: 127 },
         7 => Event::Charge { units: 65535 },
         8 => Event::Abort { thread: 2 },
-        _ => Event::Refill { timeslice: 5 },
+        9 => Event::Refill { timeslice: 5 },
+        _ => Event::Remove { thread: 127 },
     }
 }
 
@@ -59,7 +60,7 @@ fn append_listed(buffer: &mut [u8], filled: usize, place: u8) -> usize {
 // Starts a file and appends the list; the bytes filled.
 fn write(buffer: &mut [u8]) -> usize {
     let mut filled = start_file(b"start: ", buffer);
-    for place in 0..10 {
+    for place in 0..11 {
         filled = append_listed(buffer, filled, place);
     }
     filled

@@ -46,6 +46,7 @@ pub(crate) fn event(event: Event) {
         Event::Charge { units } => number(b"charge ", units as usize),
         Event::Abort { thread } => number(b"abort thread ", thread as usize),
         Event::Refill { timeslice } => number(b"refill timeslice ", timeslice as usize),
+        Event::Remove { thread } => number(b"remove thread ", thread as usize),
     }
 }
 

@@ -9,7 +9,7 @@ use lib.ListN.{length, length-append}
 use Rattle.rules.specs.declared.Role.{Role}
 use Rattle.rules.specs.declared.Role.the-variants.{Client, Server}
 use Rattle.rules.specs.declared.Event.{Event}
-use Rattle.rules.specs.declared.Event.the-variants.{Create, Give, Call, Reply, Block, Wake, Charge, Abort, Refill}
+use Rattle.rules.specs.declared.Event.the-variants.{Create, Give, Call, Reply, Block, Wake, Charge, Abort, Refill, Remove}
 use Rattle.rules.specs.EventFile.{Bytes, fits, allFit, recordOf, recordsOf, fileRefusal, eventsOf}
 use Rattle.rules.specs.Key.{bytes}
 use Rattle.rules.proofs.Basics.Views.{and-true-left, and-true-right}
@@ -47,6 +47,7 @@ line-length (Wake n) h = simp length-append (omega (arith, three-long n (omega (
 line-length (Charge units) h = simp length-append (omega (arith, five-long units (omega (arith, small (Charge units) h))))
 line-length (Abort n) h = simp length-append (omega (arith, three-long n (omega (arith, small (Abort n) h))))
 line-length (Refill t) h = simp length-append (omega (arith, three-long t (omega (arith, small (Refill t) h))))
+line-length (Remove n) h = simp length-append (omega (arith, three-long n (omega (arith, small (Remove n) h))))
 
 pub text-length : (es : List Event) → allFit es ≡ true → length (textOf es) ≤ 5 * length (recordsOf es)
 unfolding textOf recordsOf allFit bytes

@@ -9,7 +9,7 @@ use borrow.Author.Tests.{le-leb, leb-true, ne-eqb}
 use Rattle.rules.specs.declared.Role.{Role}
 use Rattle.rules.specs.declared.Role.the-variants.{Client, Server}
 use Rattle.rules.specs.declared.Event.{Event}
-use Rattle.rules.specs.declared.Event.the-variants.{Create, Give, Call, Reply, Block, Wake, Charge, Abort, Refill}
+use Rattle.rules.specs.declared.Event.the-variants.{Create, Give, Call, Reply, Block, Wake, Charge, Abort, Refill, Remove}
 use Rattle.rules.specs.Tests.{all}
 use Rattle.rules.specs.Key.{bytes, decimal}
 use Rattle.rules.proofs.Basics.Views.{Two, yes-true, no-false, two, Either, first, second, or-true-cases, and-true-left, and-true-right}
@@ -37,6 +37,7 @@ wordList (Wake n) = bytes "wake" ∷ decimal n ∷ []
 wordList (Charge units) = bytes "charge" ∷ decimal units ∷ []
 wordList (Abort n) = bytes "abort" ∷ decimal n ∷ []
 wordList (Refill t) = bytes "refill" ∷ decimal t ∷ []
+wordList (Remove n) = bytes "remove" ∷ decimal n ∷ []
 
 pub words-joined : (e : Event) → eventWords e ≡ joined 32 (wordList e)
 unfolding eventWords joined bytes
@@ -49,6 +50,7 @@ words-joined (Wake n) = refl
 words-joined (Charge units) = refl
 words-joined (Abort n) = refl
 words-joined (Refill t) = refl
+words-joined (Remove n) = refl
 
 -- a word of letters and digits, and the bytes of a line of them
 pub record Word (word : List ℕ) : Type 0 where
@@ -151,6 +153,7 @@ event-words (Wake n) = (record { some = refl; plain = refl }, (decimal-word n, t
 event-words (Charge units) = (record { some = refl; plain = refl }, (decimal-word units, tt))
 event-words (Abort n) = (record { some = refl; plain = refl }, (decimal-word n, tt))
 event-words (Refill t) = (record { some = refl; plain = refl }, (decimal-word t, tt))
+event-words (Remove n) = (record { some = refl; plain = refl }, (decimal-word n, tt))
 
 -- a decimal is read as its number
 number-back : (most above n : ℕ) (rest : List (List ℕ)) (next : ℕ → List (List ℕ) → Line) → n ≤ most
@@ -184,3 +187,4 @@ event-back (Wake n) h = number-back 255 4 n [] (λ n. words.last (Wake n)) (omeg
 event-back (Charge units) h = number-back 65535 5 units [] (λ units. words.last (Charge units)) (omega arith)
 event-back (Abort n) h = number-back 255 4 n [] (λ n. words.last (Abort n)) (omega arith)
 event-back (Refill t) h = number-back 255 4 t [] (λ t. words.last (Refill t)) (omega arith)
+event-back (Remove n) h = number-back 255 4 n [] (λ n. words.last (Remove n)) (omega arith)

@@ -10,7 +10,7 @@ use borrow.Author.Tests.{eqb-true}
 use Rattle.rules.specs.declared.Role.{Role}
 use Rattle.rules.specs.declared.Role.the-variants.{Client, Server}
 use Rattle.rules.specs.declared.Event.{Event}
-use Rattle.rules.specs.declared.Event.the-variants.{Create, Give, Call, Reply, Block, Wake, Charge, Abort, Refill}
+use Rattle.rules.specs.declared.Event.the-variants.{Create, Give, Call, Reply, Block, Wake, Charge, Abort, Refill, Remove}
 use Rattle.rules.specs.Tests.{all}
 use Rattle.rules.specs.Key.{bytes, decimal}
 use Rattle.rules.proofs.Basics.Views.{and-true-left, and-true-right, and3}
@@ -147,7 +147,8 @@ read-named w ws a =
     (is "wake" (words.wake ws) _ (read-one "wake" Wake 255 4 (λ n. refl) ws a)
     (is "charge" (words.charge ws) _ (read-one "charge" Charge 65535 5 (λ n. refl) ws a)
     (is "abort" (words.abort ws) _ (read-one "abort" Abort 255 4 (λ n. refl) ws a)
-    (is "refill" (words.refill ws) (Wrong 1) (read-one "refill" Refill 255 4 (λ n. refl) ws a) tt))))))))
+    (is "refill" (words.refill ws) _ (read-one "refill" Refill 255 4 (λ n. refl) ws a)
+    (is "remove" (words.remove ws) (Wrong 1) (read-one "remove" Remove 255 4 (λ n. refl) ws a) tt)))))))))
   where
     is : (name : String) (x y : Line) → Read (after name) ws x → Read (λ ws. ws) (w ∷ ws) y
         → Read (λ ws. ws) (w ∷ ws) (cond (words.same w (bytes name)) x y)

@@ -7,7 +7,7 @@ use lib.Dec.{leb, ltb, eqb}
 use Rattle.rules.specs.declared.Role.{Role}
 use Rattle.rules.specs.declared.Role.the-variants.{Client, Server}
 use Rattle.rules.specs.declared.Event.{Event}
-use Rattle.rules.specs.declared.Event.the-variants.{Create, Give, Call, Reply, Block, Wake, Charge, Abort, Refill}
+use Rattle.rules.specs.declared.Event.the-variants.{Create, Give, Call, Reply, Block, Wake, Charge, Abort, Refill, Remove}
 use Rattle.rules.specs.Tests.{all}
 use Rattle.rules.specs.EventFile.{recordOf}
 use Rattle.rules.specs.Key.{bytes}
@@ -139,6 +139,9 @@ abort words = byteNumber words (λ n. last (Abort n))
 abbrev pub refill : List (List ℕ) → Line
 refill words = byteNumber words (λ t. last (Refill t))
 
+abbrev pub remove : List (List ℕ) → Line
+remove words = byteNumber words (λ n. last (Remove n))
+
 -- the event that the first word names
 unfoldable pub eventNamed : List ℕ → List (List ℕ) → Line
 eventNamed word words =
@@ -151,7 +154,8 @@ eventNamed word words =
     (cond (same word (bytes "charge")) (charge words)
     (cond (same word (bytes "abort")) (abort words)
     (cond (same word (bytes "refill")) (refill words)
-    (Wrong noSuchEvent)))))))))
+    (cond (same word (bytes "remove")) (remove words)
+    (Wrong noSuchEvent))))))))))
 
 abbrev pub lineOfWords : List (List ℕ) → Line
 lineOfWords [] = Empty

@@ -121,6 +121,14 @@ fn refill(line: &[u8], at: usize) -> Line
     answer(last.fault, Event::Refill { timeslice })
 }
 
+fn remove(line: &[u8], at: usize) -> Line
+    ensures { λ r. ⌜ r ≡ reading.remove (wordsOf (drop at (now (line .entry)))) ⌝ }
+{
+    let last = take_last(line, at, 255, 4);
+    let thread = narrow(last.value);
+    answer(last.fault, Event::Remove { thread })
+}
+
 // An event without operands.
 fn alone(line: &[u8], at: usize, event: Event) -> Line
     ensures { λ r. ⌜ r ≡ last event (wordsOf (drop at (now (line .entry)))) ⌝ }
@@ -159,6 +167,9 @@ fn named(word: &[u8], line: &[u8], at: usize) -> Line
     }
     if same(word, b"refill") {
         return refill(line, at);
+    }
+    if same(word, b"remove") {
+        return remove(line, at);
     }
     Line::Wrong(1)
 }

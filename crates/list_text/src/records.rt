@@ -31,6 +31,7 @@ pub fn record_length(event: Event) -> usize
         Event::Charge { units: _ } => 4,
         Event::Abort { thread: _ } => 3,
         Event::Refill { timeslice: _ } => 3,
+        Event::Remove { thread: _ } => 3,
     }
 }
 
@@ -127,6 +128,7 @@ fn put_record(out: &mut [u8], at: usize, event: Event) -> usize
         Event::Charge { units } => put_charge(out, at, units),
         Event::Abort { thread } => put_three(out, at, 2, 8, thread),
         Event::Refill { timeslice } => put_three(out, at, 2, 9, timeslice),
+        Event::Remove { thread } => put_three(out, at, 2, 10, thread),
     }
 }
 

@@ -73,6 +73,7 @@ fn put_event(out: &mut [u8], at: usize, event: Event) -> usize
         Event::Charge { units } => put_named(out, at, b"charge ", units as u64),
         Event::Abort { thread } => put_named(out, at, b"abort ", thread as u64),
         Event::Refill { timeslice } => put_named(out, at, b"refill ", timeslice as u64),
+        Event::Remove { thread } => put_named(out, at, b"remove ", thread as u64),
     }
 }
 

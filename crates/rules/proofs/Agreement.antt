@@ -4,7 +4,7 @@ use mathlib.Core.Path.{_≡_, refl}
 use mathlib.Core.Bool.{true}
 use native.Mathlib.Omega.{arith}
 use Rattle.rules.specs.declared.Event.{Event}
-use Rattle.rules.specs.declared.Event.the-variants.{Create, Give, Call, Reply, Block, Wake, Charge, Abort, Refill}
+use Rattle.rules.specs.declared.Event.the-variants.{Create, Give, Call, Reply, Block, Wake, Charge, Abort, Refill, Remove}
 use Rattle.rules.specs.State.{State, forget}
 use Rattle.rules.specs.Sound.{sound}
 use Rattle.rules.specs.Refusals.{refusal}
@@ -22,6 +22,7 @@ use Rattle.rules.proofs.Events.WakeEvent.{wake-handed}
 use Rattle.rules.proofs.Events.ChargeEvent.{charge-handed}
 use Rattle.rules.proofs.Events.AbortEvent.{abort-handed}
 use Rattle.rules.proofs.Events.RefillEvent.{refill-handed}
+use Rattle.rules.proofs.Events.RemoveEvent.{remove-handed}
 
 -- all kinds of event: a further kind is one more line
 handed : (e : Event) (s : State) → Sound s → GiveRanged e → refusal e (forget s) ≡ 0 → Handed s (midway e s) (update e (forget s))
@@ -34,6 +35,7 @@ handed (Wake n) s x f k = wake-handed s x n k
 handed (Charge units) s x f k = charge-handed s x units k
 handed (Abort n) s x f k = abort-handed s x n k
 handed (Refill t) s x f k = refill-handed s x t k
+handed (Remove n) s x f k = remove-handed s x n k
 
 -- the two machines' answers to one event
 pub record Agrees (s : State) (a : Answered) (b : PlainAnswered) : Type 0 where

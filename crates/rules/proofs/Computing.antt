@@ -1,15 +1,15 @@
 -- `unfolding computing` opens every definition of specs/, for a proof by computation.
-use Rattle.rules.specs.Tests.{member, distinct, all, someOf, below}
+use Rattle.rules.specs.Tests.{member, distinct, all, below}
 use Rattle.rules.specs.State.{liveThreads}
 use Rattle.rules.specs.Order.{earlier, standsAbove, topmost}
 use Rattle.rules.specs.Walk.{walkFrom, walk}
-use Rattle.rules.specs.Threads.{setHold, setService, created, donate, replied, aborted}
-use Rattle.rules.specs.Timeslices.{setLeft, given, last, without, toBack, charged, refilled}
+use Rattle.rules.specs.Threads.{setHold, setService, created, donate, replied, aborted, linksCut, removed}
+use Rattle.rules.specs.Timeslices.{ownOf, setLeft, given, last, without, toBack, charged, refilled, struck}
 use Rattle.rules.specs.Release.{releasedPlaces, release}
 use Rattle.rules.specs.Choice.{park, retry, chooseFrom, choose}
 use Rattle.rules.specs.Sound.{shaped, placed, settled, sound}
 use Rattle.rules.specs.Events.{releases, create, withGiven, give, callDonates, callHelps, call, reply, block, wake, depletes}
-use Rattle.rules.specs.Events.{spends, charge, abortAfter, abort, withRefilled, refill, dispatch, offer}
+use Rattle.rules.specs.Events.{spends, charge, afterWalk, abort, withRefilled, refill, remove, dispatch, offer}
 use Rattle.rules.specs.Plain.{judgeFrom, judge, plainOffer}
 use Rattle.rules.specs.Lists.{run, after, plainRun}
 use Rattle.rules.specs.EventFile.{recordsOf, fileOf, recordAt, eventsAfter, fileRefusal, eventsOf, opened, stepped, started, allFit}
@@ -18,11 +18,10 @@ use Rattle.rules.specs.Steps.{eventsIn, appendedAll}
 use Rattle.rules.specs.Key.{bytes, digits, decimal, columns, line, lines, fileLine, key, shortLines, shortKey, plainLines, plainKey}
 
 unfoldable pub computing : Unit {0}
-unfolding member distinct all someOf below liveThreads earlier standsAbove topmost walkFrom walk setHold setService created donate replied
-    aborted setLeft given last without toBack charged refilled releasedPlaces release park retry chooseFrom choose shaped placed settled
-    sound
-    releases create withGiven give callDonates callHelps call reply block wake depletes spends charge abortAfter abort withRefilled refill
-    dispatch offer
-    judgeFrom judge plainOffer run after plainRun allFit recordsOf fileOf recordAt eventsAfter fileRefusal eventsOf opened stepped started
-    appendRefusal appended eventsIn appendedAll bytes digits decimal columns line lines fileLine key shortLines shortKey plainLines plainKey
+unfolding member distinct all below liveThreads earlier standsAbove topmost walkFrom walk setHold setService created donate replied
+    aborted linksCut removed ownOf setLeft given last without toBack charged refilled struck releasedPlaces release park retry chooseFrom
+    choose shaped placed settled sound releases create withGiven give callDonates callHelps call reply block wake depletes spends charge
+    afterWalk abort withRefilled refill remove dispatch offer judgeFrom judge plainOffer run after plainRun allFit recordsOf fileOf
+    recordAt eventsAfter fileRefusal eventsOf opened stepped started appendRefusal appended eventsIn appendedAll bytes digits decimal
+    columns line lines fileLine key shortLines shortKey plainLines plainKey
 computing = tt

@@ -17,27 +17,28 @@ use Rattle.rules.specs.declared.Place.{Place}
 use Rattle.rules.specs.declared.Place.the-variants.{Queue, Behind, On, Stalled, Spent}
 use Rattle.rules.specs.declared.Running.{Running}
 use Rattle.rules.specs.declared.Running.the-variants.{Nothing, Runs}
-use Rattle.rules.specs.declared.Chain.{Chain}
 use Rattle.rules.specs.declared.Event.{Event}
-use Rattle.rules.specs.declared.Event.the-variants.{Create, Give, Call, Reply, Block, Wake, Charge, Abort, Refill}
+use Rattle.rules.specs.declared.Event.the-variants.{Create, Give, Call, Reply, Block, Wake, Charge, Abort, Refill, Remove}
 use Rattle.rules.specs.Tests.{member}
 use Rattle.rules.specs.State.{Slice, State, Plain, forget, freeSlice, holdAt, serviceAt, leftAt, placeAt}
-use Rattle.rules.specs.Walk.{chainOf, verdict, Verdict, runs, retries, waits, stalls}
-use Rattle.rules.specs.Threads.{donate, replied}
-use Rattle.rules.specs.Timeslices.{given, charged, refilled}
+use Rattle.rules.specs.Threads.{replied}
+use Rattle.rules.specs.Timeslices.{ownOf, given, without, charged, refilled, struck}
 use Rattle.rules.specs.Release.{isSpent}
 use Rattle.rules.specs.Sound.{sound}
 use Rattle.rules.specs.Refusals.{refusal, aboveLimit}
 use Rattle.rules.specs.Events.{offer}
 use Rattle.rules.specs.Plain.{plainThreads, plainRunning, plainCall, plainCallAt, plainReply, plainReplyTo, plainBlock}
-use Rattle.rules.specs.Plain.{plainCharge, update, judgeBy, judgeTop, topmostRunnable, judgeFrom, judge, plainOfferAfter, plainOffer}
+use Rattle.rules.specs.Plain.{plainCharge, plainStrike, update}
+use Rattle.rules.specs.Plain.{plainOfferAfter, plainOffer}
 use Rattle.rules.specs.Lists.{GiveRanged}
 use Rattle.rules.proofs.Basics.Views.{clash}
 use Rattle.rules.proofs.Basics.Accepting.{passes}
+use Rattle.rules.proofs.Order.Orders.{member-without}
 use Rattle.rules.proofs.Soundness.Places.{Sound, sound-of}
 use Rattle.rules.proofs.Choosing.Tops.{top-queued}
 use Rattle.rules.proofs.Events.Hands.{active}
 use Rattle.rules.proofs.Events.Lefts.{left-others, in-table}
+use Rattle.rules.proofs.Judging.{judge-slices, judge-order}
 use Rattle.rules.proofs.Agreement.{agrees}
 
 -- "Left is 0 exactly for Spent."
@@ -56,31 +57,7 @@ refill-refused s h t l =
     by true = refl
     by false = refl
 
--- judging changes no timeslice
-judged-by : (k : ℕ) (p : Plain) → ((q : Plain) → judgeFrom k q .slices ≡ q .slices) → (t : ℕ) (c : Chain) (v : Verdict)
-    → judgeBy (λ q. judgeFrom k q) p t c v .slices ≡ p .slices
-judged-by k p ih t c runs = refl
-judged-by k p ih t c retries = ih (plainThreads (donate (c .helper) (c .end) (p .threads)) p)
-judged-by k p ih t c waits = refl
-judged-by k p ih t c stalls = refl
-
-judged-top : (k : ℕ) (p : Plain) → ((q : Plain) → judgeFrom k q .slices ≡ q .slices) → (o : Option ℕ)
-    → judgeTop (λ q. judgeFrom k q) p o .slices ≡ p .slices
-judged-top k p ih none = refl
-judged-top k p ih (some t) =
-    let c = chainOf (p .threads) (p .slices) t in
-    judged-by k p ih t c (verdict (p .threads) c)
-
-judged : (k : ℕ) (p : Plain) → judgeFrom k p .slices ≡ p .slices
-unfolding judgeFrom
-judged zero p = refl
-judged (suc k) p = judged-top k p (judged k) (topmostRunnable p)
-
-judge-slices : (p : Plain) → judge p .slices ≡ p .slices
-unfolding judge
-judge-slices p = judged _ p
-
--- nor do a call, a reply and a block
+-- a call, a reply and a block change no timeslice
 called-at : (server caller t count : ℕ) (p : Plain) (h : Hold) → plainCallAt server caller t count p h .slices ≡ p .slices
 called-at server caller t count p Ready = refl
 called-at server caller t count p Idle = refl
@@ -146,22 +123,34 @@ module _ (s : State) (x : Sound s) (t : ℕ) (listed : member t (s .order) ≡ t
       let inside = in-table (x .mid) u (not-false (member u (s .order)) live) in
       ap (λ (y : Slice). y .left) (left-others (s .slices) u _ inside t (λ z. other (ap Refill (sym z))))
 
-  -- all kinds of event: a further kind is one more line
-  update-kept : (e : Event) → refusal e p ≡ 0 → (e ≡ Refill t → ⊥) → leftAt (update e p .slices) t ≡ leftAt (s .slices) t
-  update-kept (Create n r) k other = refl
-  update-kept (Give u n priority quantum) k other = given-kept u n priority quantum k
-  update-kept (Call server) k other = same-left (called server p (s .running))
-  update-kept Reply k other = same-left (replies p (s .running))
-  update-kept Block k other = same-left (blocks p (s .running))
-  update-kept (Wake n) k other = refl
-  update-kept (Charge units) k other = charged-kept units (s .running) refl
-  update-kept (Abort n) k other = refl
-  update-kept (Refill u) k other = refilled-kept u k other
+  -- the one that is struck out is not listed any more
+  struck-kept : (o : Option ℕ) → member t (plainStrike o p .order) ≡ true → leftAt (plainStrike o p .slices) t ≡ leftAt (s .slices) t
+  unfolding struck
+  struck-kept none still = refl
+  struck-kept (some u) still =
+      let gone = member-without u (s .order) (x .mid .shape .turns .once) in
+      let other : t ≡ u → ⊥ = λ z. clash (member u (without u (s .order))) (rw z at still) gone in
+      ap (λ (y : Slice). y .left) (getD-set-other (s .slices) u t freeSlice freeSlice other)
 
-  offered-kept : (e : Event) (k : ℕ) → refusal e p ≡ k → (e ≡ Refill t → ⊥)
+  -- all kinds of event: a further kind is one more line
+  update-kept : (e : Event) → refusal e p ≡ 0 → (e ≡ Refill t → ⊥) → member t (update e p .order) ≡ true
+      → leftAt (update e p .slices) t ≡ leftAt (s .slices) t
+  update-kept (Create n r) k other still = refl
+  update-kept (Give u n priority quantum) k other still = given-kept u n priority quantum k
+  update-kept (Call server) k other still = same-left (called server p (s .running))
+  update-kept Reply k other still = same-left (replies p (s .running))
+  update-kept Block k other still = same-left (blocks p (s .running))
+  update-kept (Wake n) k other still = refl
+  update-kept (Charge units) k other still = charged-kept units (s .running) refl
+  update-kept (Abort n) k other still = refl
+  update-kept (Refill u) k other still = refilled-kept u k other
+  update-kept (Remove n) k other still = struck-kept (ownOf (s .slices) n (s .order)) still
+
+  offered-kept : (e : Event) (k : ℕ) → refusal e p ≡ k → (e ≡ Refill t → ⊥) → member t (plainOfferAfter k e p .plain .order) ≡ true
       → leftAt (plainOfferAfter k e p .plain .slices) t ≡ leftAt (s .slices) t
-  offered-kept e zero q other = same-left (judge-slices (update e p)) ∙ update-kept e q other
-  offered-kept e (suc k) q other = refl
+  offered-kept e zero q other still =
+      same-left (judge-slices (update e p)) ∙ update-kept e q other (rw (judge-order (update e p)) at still)
+  offered-kept e (suc k) q other still = refl
 
 spent-is : (p : Place) → isSpent p ≡ true → p ≡ Spent
 spent-is Queue e = clash false e refl
@@ -180,6 +169,8 @@ spent-until-refilled e s f h t listed spent other still =
     let a = agrees e s x f in
     let s′ = offer e s .state in
     let left : leftAt (s′ .slices) t ≡ leftAt (s .slices) t =
-    ap (λ (p : Plain). leftAt (p .slices) t) (a .plain) ∙ offered-kept s x t listed spent e (refusal e (forget s)) refl other in
+    ap (λ (p : Plain). leftAt (p .slices) t) (a .plain)
+    ∙ offered-kept s x t listed spent e (refusal e (forget s)) refl other
+    (sym (ap (λ (p : Plain). member t (p .order)) (a .plain)) ∙ still) in
     let none-left : eqb (leftAt (s .slices) t) 0 ≡ true = sym (spent-left s h t listed) ∙ ap isSpent spent in
     spent-is (placeAt (s′ .places) t) (a .sound .mid .placed .spent t still ∙ ap (λ (l : ℕ). eqb l 0) left ∙ none-left)

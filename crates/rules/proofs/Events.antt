@@ -2,6 +2,7 @@
 pub mod Hands
 pub mod Joining
 pub mod Lefts
+pub mod Cutting
 pub mod CreateEvent
 pub mod GiveEvent
 pub mod CallEvent
@@ -11,3 +12,4 @@ pub mod WakeEvent
 pub mod ChargeEvent
 pub mod AbortEvent
 pub mod RefillEvent
+pub mod RemoveEvent

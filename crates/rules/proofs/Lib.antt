@@ -1,5 +1,5 @@
 -- What is proved about the definitions of specs/. Demands.antt has the theorems about the machines, Files/Inverse.antt those about event
--- files; MarkedSequences.antt has K1 to K11, Depletion.antt what a Spent timeslice is.
+-- files; MarkedSequences.antt has K1 to K11, Depletion.antt what a Spent timeslice is, Removal.antt that freed numbers are free.
 pub mod Computing
 pub mod MarkedSequences
 pub mod Basics
@@ -13,4 +13,6 @@ pub mod Events
 pub mod Agreement
 pub mod Bounds
 pub mod Demands
+pub mod Judging
 pub mod Depletion
+pub mod Removal

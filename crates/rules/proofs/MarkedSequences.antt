@@ -10,7 +10,7 @@ use Rattle.rules.specs.declared.Role.the-variants.{Client, Server}
 use Rattle.rules.specs.declared.Place.{Place}
 use Rattle.rules.specs.declared.Place.the-variants.{Queue, Behind, On, Stalled, Spent}
 use Rattle.rules.specs.declared.Event.{Event}
-use Rattle.rules.specs.declared.Event.the-variants.{Create, Give, Call, Reply, Block, Wake, Charge, Abort, Refill}
+use Rattle.rules.specs.declared.Event.the-variants.{Create, Give, Call, Reply, Block, Wake, Charge, Abort, Refill, Remove}
 use Rattle.rules.specs.State.{State, empty, placeAt}
 use Rattle.rules.specs.Sound.{sound}
 use Rattle.rules.specs.Lists.{after}
@@ -237,28 +237,116 @@ refilledInTurn =
       places = at 0 Queue ∷ at 1 Queue ∷ [];
     }
 
--- A depleted leader: timeslice 2 pays for server 1, which serves client 0, with 0 and 3 Behind it. Depleted, it is Spent; of its followers
--- 3 stands above and goes to Queue, 0 goes Behind that one, and the server is finished on a helper's time.
+-- timeslice 2 pays for server 1, which serves client 0, with 0 and 3 Behind it
+unfoldable pub leading : List Event
+leading =
+    Create 0 Client ∷ Create 1 Server ∷ Create 2 Client ∷ Create 3 Client ∷ Give 0 0 10 9 ∷ Call 1 ∷ Block ∷ Give 2 2 20 9 ∷ Call 1
+    ∷ Give 3 3 15 9 ∷ Call 1 ∷ Wake 1 ∷ []
+
+unfoldable pub leadingPrints : List Line
+leadingPrints =
+    "1 ok 0 - - 0" with-links "0" ∷ "2 ok 0 - - 0" with-links "0" ∷ "3 ok 0 - - 0" with-links "0" ∷ "4 ok 0 - - 0" with-links "0"
+    ∷ "5 ok 0 0 0 0" with-links "0" ∷ "6 ok 0 1 0 1" with-links "0" ∷ "7 ok 0 - - 0" with-links "1" ∷ "8 ok 0 2 2 0" with-links "0"
+    ∷ "9 ok 0 - - 0" with-links "1" ∷ "10 ok 0 3 3 0" with-links "0" ∷ "11 ok 0 - - 0" with-links "1"
+    ∷ "12 ok 0 1 2 0" with-links "1" ∷ []
+
+-- A depleted leader is Spent; of its followers 3 stands above and goes to Queue, 0 goes Behind that one, and the server is finished on a
+-- helper's time.
 unfoldable pub spentLeader : Row
 spentLeader =
     record {
-      file =
-          fileOf
-          (Create 0 Client ∷ Create 1 Server ∷ Create 2 Client ∷ Create 3 Client ∷ Give 0 0 10 9 ∷ Call 1 ∷ Block ∷ Give 2 2 20 9 ∷ Call 1
-          ∷ Give 3 3 15 9 ∷ Call 1 ∷ Wake 1 ∷ Charge 9 ∷ []);
-      prints =
-          lines
-          ("1 ok 0 - - 0" with-links "0" ∷ "2 ok 0 - - 0" with-links "0" ∷ "3 ok 0 - - 0" with-links "0" ∷ "4 ok 0 - - 0" with-links "0"
-          ∷ "5 ok 0 0 0 0" with-links "0" ∷ "6 ok 0 1 0 1" with-links "0" ∷ "7 ok 0 - - 0" with-links "1"
-          ∷ "8 ok 0 2 2 0" with-links "0" ∷ "9 ok 0 - - 0" with-links "1" ∷ "10 ok 0 3 3 0" with-links "0"
-          ∷ "11 ok 0 - - 0" with-links "1" ∷ "12 ok 0 1 2 0" with-links "1" ∷ "13 ok 0 1 3 0" with-links "1" ∷ []);
+      file = fileOf (leading ++ (Charge 9 ∷ []));
+      prints = lines (leadingPrints ++ ("13 ok 0 1 3 0" with-links "1" ∷ []));
       places = at 0 (Behind 3) ∷ at 2 Spent ∷ at 3 Queue ∷ [];
     }
 
+-- Remove, document 02, [3]: server 1 is removed with a caller and a helper, and both are Ready, not Blocked: each runs at once on its own
+-- timeslice. Refused with 2 and 4; the number is created again, in the other role.
+unfoldable pub serverRemoved : Row
+serverRemoved =
+    record {
+      file =
+          fileOf
+          (Create 0 Client ∷ Create 1 Server ∷ Create 2 Client ∷ Give 0 0 10 9 ∷ Call 1 ∷ Give 2 2 20 9 ∷ Call 1 ∷ Remove 1 ∷ Block
+          ∷ Remove 128 ∷ Remove 1 ∷ Create 1 Client ∷ Call 1 ∷ []);
+      prints =
+          lines
+          ("1 ok 0 - - 0" with-links "0" ∷ "2 ok 0 - - 0" with-links "0" ∷ "3 ok 0 - - 0" with-links "0" ∷ "4 ok 0 0 0 0" with-links "0"
+          ∷ "5 ok 0 1 0 1" with-links "0" ∷ "6 ok 0 2 2 0" with-links "0" ∷ "7 ok 0 1 2 0" with-links "1"
+          ∷ "8 ok 0 2 2 0" with-links "0" ∷ "9 ok 0 0 0 0" with-links "0" ∷ "10 no 2 0 0 0" with-links "0"
+          ∷ "11 no 4 0 0 0" with-links "0" ∷ "12 ok 0 0 0 0" with-links "0" ∷ "13 no 6 0 0 0" with-links "0" ∷ []);
+      places = at 0 Queue ∷ at 2 (On 2) ∷ [];
+    }
+
+-- A struck-out leader, its owner removed: again 3 goes to Queue and 0 Behind that one.
+unfoldable pub leaderRemoved : Row
+leaderRemoved =
+    record {
+      file = fileOf (leading ++ (Remove 2 ∷ []));
+      prints = lines (leadingPrints ++ ("13 ok 0 1 3 0" with-links "2" ∷ []));
+      places = at 0 (Behind 3) ∷ at 3 Queue ∷ [];
+    }
+
+-- Then the caller is removed, whose timeslice is Behind: the server is an orphan, and after its reply the helper's retry succeeds.
+-- Timeslice 2, given again, is last.
+unfoldable pub callerRemoved : Row
+callerRemoved =
+    record {
+      file = fileOf (leading ++ (Remove 2 ∷ Remove 0 ∷ Reply ∷ Create 2 Client ∷ Give 2 2 15 9 ∷ []));
+      prints =
+          lines
+          (leadingPrints ++ ("13 ok 0 1 3 0" with-links "2" ∷ "14 ok 0 1 3 0" with-links "2" ∷ "15 ok 0 1 3 1" with-links "2"
+          ∷ "16 ok 0 1 3 1" with-links "0" ∷ "17 ok 0 1 3 1" with-links "0" ∷ []));
+      places = at 2 Queue ∷ at 3 Queue ∷ [];
+    }
+
+-- K7's loop, one of it removed: the Stalled are released, and the walk's 3 links count. Then the Idle owner 2 with its timeslice On itself
+-- is removed, and then the Blocked thread 1, whose waiters are released.
+unfoldable pub loopRemoved : Row
+loopRemoved =
+    record {
+      file = fileOf (seven ++ (Remove 2 ∷ Block ∷ Create 2 Server ∷ Give 2 2 5 9 ∷ Remove 2 ∷ Remove 1 ∷ []));
+      prints =
+          lines
+          (sevenPrints ++ ("8 ok 0 1 0 1" with-links "4" ∷ "9 ok 0 - - 0" with-links "1" ∷ "10 ok 0 - - 0" with-links "0"
+          ∷ "11 ok 0 - - 0" with-links "0" ∷ "12 ok 0 - - 0" with-links "0" ∷ "13 ok 0 0 0 0" with-links "0" ∷ []));
+      places = at 0 Queue ∷ [];
+    }
+
 unfoldable pub rows : List Row
-rows = K1 ∷ K2 ∷ K3 ∷ K4 ∷ K5 ∷ K6 ∷ K7 ∷ K8 ∷ K9 ∷ K10 ∷ K11 ∷ ownTimeslice ∷ refilledInTurn ∷ spentLeader ∷ []
+rows =
+    K1 ∷ K2 ∷ K3 ∷ K4 ∷ K5 ∷ K6 ∷ K7 ∷ K8 ∷ K9 ∷ K10 ∷ K11 ∷ ownTimeslice ∷ refilledInTurn ∷ spentLeader ∷ serverRemoved
+    ∷ leaderRemoved ∷ callerRemoved ∷ loopRemoved ∷ []
 
 pub marked : All Meets rows
 unfolding computing linesText plainLinesText text plainText stands placesOf machineAfter result expected K1 two twoPrints K2 K3 four
-    fourPrints K4 K5 K6 seven sevenPrints K7 K8 K9 K10 K11 ownTimeslice refilledInTurn spentLeader rows
-marked = (refl, (refl, (refl, (refl, (refl, (refl, (refl, (refl, (refl, (refl, (refl, (refl, (refl, (refl, tt))))))))))))))
+    fourPrints K4 K5 K6 seven sevenPrints K7 K8 K9 K10 K11 ownTimeslice refilledInTurn leading
+    leadingPrints spentLeader serverRemoved leaderRemoved callerRemoved loopRemoved rows
+marked = (
+  refl,
+  (
+    refl,
+    (
+      refl,
+      (
+        refl,
+        (
+          refl,
+          (
+            refl,
+            (
+              refl,
+              (
+                refl,
+                (
+                  refl,
+                  (refl, (refl, (refl, (refl, (refl, (refl, (refl, (refl, (refl, tt))))))))),
+                ),
+              ),
+            ),
+          ),
+        ),
+      ),
+    ),
+  ),
+)

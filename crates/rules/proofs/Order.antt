@@ -1,2 +1,3 @@
 -- The order of timeslices.
 pub mod Orders
+pub mod Owners

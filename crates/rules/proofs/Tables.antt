@@ -2,3 +2,4 @@
 pub mod Partners
 pub mod Writes
 pub mod Updates
+pub mod Removals

@@ -9,7 +9,7 @@ use lib.Dec.{leb, ltb, eqb}
 use Rattle.rules.specs.declared.Role.{Role}
 use Rattle.rules.specs.declared.Role.the-variants.{Client, Server}
 use Rattle.rules.specs.declared.Event.{Event}
-use Rattle.rules.specs.declared.Event.the-variants.{Create, Give, Call, Reply, Block, Wake, Charge, Abort, Refill}
+use Rattle.rules.specs.declared.Event.the-variants.{Create, Give, Call, Reply, Block, Wake, Charge, Abort, Refill, Remove}
 use Rattle.rules.specs.Tests.{all}
 use Rattle.rules.specs.Refusals.{_gives_else_}
 
@@ -32,7 +32,7 @@ abbrev pub roleByte : Role → ℕ
 roleByte Client = 0
 roleByte Server = 1
 
--- "Kinds: 1 create; 2 give; 3 call; 4 reply; 5 block; 6 wake; 7 charge; 8 abort"; document 02, [2]: "Kind 9, refill"
+-- "Kinds: 1 create; 2 give; 3 call; 4 reply; 5 block; 6 wake; 7 charge; 8 abort"; document 02: "Kind 9, refill", "Kind 10, remove"
 abbrev pub kindOf : Event → ℕ
 kindOf (Create n r) = 1
 kindOf (Give t n priority quantum) = 2
@@ -43,9 +43,10 @@ kindOf (Wake n) = 6
 kindOf (Charge units) = 7
 kindOf (Abort n) = 8
 kindOf (Refill t) = 9
+kindOf (Remove n) = 10
 
 -- "create (thread, role ..); give (timeslice, thread, priority, quantum in 2 bytes); call (server); wake (thread); charge (2 bytes);
--- abort (thread)"; "refill (timeslice)"
+-- abort (thread)"; "refill (timeslice)"; "remove (thread)"
 abbrev pub operandsOf : Event → List ℕ
 operandsOf (Create n r) = n ∷ roleByte r ∷ []
 operandsOf (Give t n priority quantum) = t ∷ n ∷ priority ∷ highByte quantum ∷ lowByte quantum ∷ []
@@ -56,6 +57,7 @@ operandsOf (Wake n) = n ∷ []
 operandsOf (Charge units) = highByte units ∷ lowByte units ∷ []
 operandsOf (Abort n) = n ∷ []
 operandsOf (Refill t) = t ∷ []
+operandsOf (Remove n) = n ∷ []
 
 -- "A record: one length byte counting what follows it, a kind byte, operands."
 abbrev pub recordOf : Event → List ℕ
@@ -129,7 +131,8 @@ eventOf kind operands =
     (cond (eqb kind 6) (oneByte Wake operands)
     (cond (eqb kind 7) (oneWord Charge operands)
     (cond (eqb kind 8) (oneByte Abort operands)
-    (cond (eqb kind 9) (oneByte Refill operands) none))))))))
+    (cond (eqb kind 9) (oneByte Refill operands)
+    (cond (eqb kind 10) (oneByte Remove operands) none)))))))))
 
 abbrev pub bodyOf : List ℕ → Option Event
 bodyOf [] = none

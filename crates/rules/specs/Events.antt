@@ -1,5 +1,6 @@
--- Document 01, "Events", and document 02, [2]: what an accepted event does to the dispatcher's machine.
+-- Document 01, "Events", and document 02, [2] and [3]: what an accepted event does to the dispatcher's machine.
 use Prim.Native.Nat.{ℕ, zero, suc, _+_, _-_}
+use mathlib.Core.List.{List}
 use mathlib.Core.Bool.{Bool, true, false, cond}
 use mathlib.Core.Option.{Option, none, some}
 use lib.ListN.{set}
@@ -9,17 +10,19 @@ use Rattle.rules.specs.declared.Hold.{Hold}
 use Rattle.rules.specs.declared.Hold.the-variants.{Ready, Idle, Blocked, Calling, Helping}
 use Rattle.rules.specs.declared.Service.{Service}
 use Rattle.rules.specs.declared.Service.the-variants.{Nobody, Serving, Orphan}
+use Rattle.rules.specs.declared.Thread.{Thread}
 use Rattle.rules.specs.declared.Place.the-variants.{Queue, Spent}
 use Rattle.rules.specs.declared.Running.{Running}
 use Rattle.rules.specs.declared.Running.the-variants.{Nothing, Runs}
 use Rattle.rules.specs.declared.Chain.{Chain}
 use Rattle.rules.specs.declared.Event.{Event}
-use Rattle.rules.specs.declared.Event.the-variants.{Create, Give, Call, Reply, Block, Wake, Charge, Abort, Refill}
-use Rattle.rules.specs.State.{State, forget, holdAt, serviceAt, leftAt, withThreads, withPlaces, withRunning, withTimeslices}
+use Rattle.rules.specs.declared.Event.the-variants.{Create, Give, Call, Reply, Block, Wake, Charge, Abort, Refill, Remove}
+use Rattle.rules.specs.State.{State, forget, freePlace, holdAt, serviceAt, leftAt}
+use Rattle.rules.specs.State.{withThreads, withPlaces, withRunning, withTimeslices}
 use Rattle.rules.specs.Order.{standsAbove}
 use Rattle.rules.specs.Walk.{walk}
-use Rattle.rules.specs.Threads.{setHold, created, donate, replied, aborted}
-use Rattle.rules.specs.Timeslices.{given, last, toBack, charged, refilled}
+use Rattle.rules.specs.Threads.{setHold, created, donate, replied, aborted, removed}
+use Rattle.rules.specs.Timeslices.{ownOf, given, last, without, toBack, charged, refilled, struck}
 use Rattle.rules.specs.Release.{onThread, stalled, topmostAt, release}
 use Rattle.rules.specs.Choice.{Outcome, park, choose}
 use Rattle.rules.specs.Sound.{isBlocked, sound}
@@ -131,26 +134,27 @@ chargeBy units s (Runs n t count) = cond (eqb (leftAt (s .slices) t) units) (dep
 unfoldable pub charge : ℕ → State → Midway
 charge units s = chargeBy units s (s .running)
 
--- Abort: "If the walk ended at a Blocked thread, those On it are released; if it looped, the Stalled are released. Then choice."
+-- Abort, Remove: "If the walk ended at a Blocked thread, those On it are released; if it looped, the Stalled are released. Then choice."
 abbrev pub releaseEnd : Bool → ℕ → State → State
 releaseEnd true end s = release (onThread end) s
 releaseEnd false end s = s
 
-abbrev pub releaseAbort : Bool → Bool → ℕ → State → State
-releaseAbort true blocked end s = release stalled s
-releaseAbort false blocked end s = releaseEnd blocked end s
+abbrev pub releaseWalked : Bool → Bool → ℕ → State → State
+releaseWalked true blocked end s = release stalled s
+releaseWalked false blocked end s = releaseEnd blocked end s
+
+-- after the walk c, whose end was Blocked or not, and after the changes that follow it
+unfoldable pub afterWalk : Chain → Bool → State → Midway
+afterWalk c blocked s = record { state = releaseWalked (c .looped) blocked (c .end) s; links = c .links; chooses = true }
+
+abbrev pub endBlocked : Chain → List Thread → Bool
+endBlocked c ts = isBlocked (holdAt ts (c .end))
 
 -- Abort: "first walk from the thread named"
-unfoldable pub abortAfter : ℕ → Chain → State → Midway
-abortAfter n c s =
-    record {
-      state = releaseAbort (c .looped) (isBlocked (holdAt (s .threads) (c .end))) (c .end) (withThreads (aborted n (s .threads)) s);
-      links = c .links;
-      chooses = true;
-    }
-
 unfoldable pub abort : ℕ → State → Midway
-abort n s = abortAfter n (walk (s .threads) n) s
+abort n s =
+    let c = walk (s .threads) n in
+    afterWalk c (endBlocked c (s .threads)) (withThreads (aborted n (s .threads)) s)
 
 -- Refill, document 02, [2]: "sets left to the quantum and puts it in Queue, with choice as for a wake"
 unfoldable pub withRefilled : ℕ → State → State
@@ -158,6 +162,18 @@ withRefilled t s = withPlaces (set (s .places) t Queue) (withTimeslices (refille
 
 unfoldable pub refill : ℕ → State → Midway
 refill t s = joins t (withRefilled t s)
+
+-- Remove, document 02, [3]: "Its own timeslice is struck out, and that one's followers are released."
+abbrev pub strikeOut : Option ℕ → State → State
+strikeOut none s = s
+strikeOut (some t) s = park t freePlace (withTimeslices (struck t (s .slices)) (without t (s .order)) s)
+
+-- Remove: "Walk from the thread first." The record is freed before the release, which looks at no thread.
+unfoldable pub remove : ℕ → State → Midway
+remove n s =
+    let c = walk (s .threads) n in
+    let s′ = strikeOut (ownOf (s .slices) n (s .order)) s in
+    afterWalk c (endBlocked c (s .threads)) (withThreads (removed n (s .threads)) s′)
 
 -- the machine that an accepted event hands to the choice, or that is its result
 abbrev pub midway : Event → State → Midway
@@ -170,6 +186,7 @@ midway (Wake n) s = wake n s
 midway (Charge units) s = charge units s
 midway (Abort n) s = abort n s
 midway (Refill t) s = refill t s
+midway (Remove n) s = remove n s
 
 abbrev pub settleIf : Bool → Outcome → Outcome
 settleIf true o = choose o

@@ -59,6 +59,14 @@ isServing n Orphan = false
 abbrev pub serverAt : List Thread → ℕ → Bool
 serverAt ts n = isServer (threadAt ts n .role)
 
+-- Calling or Helping that thread
+abbrev pub linkedTo : ℕ → Hold → Bool
+linkedTo n Ready = false
+linkedTo n Idle = false
+linkedTo n Blocked = false
+linkedTo n (Calling s) = eqb s n
+linkedTo n (Helping s) = eqb s n
+
 -- Calling or Helping
 abbrev pub linked : Hold → Bool
 linked Ready = false

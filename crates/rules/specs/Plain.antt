@@ -14,12 +14,12 @@ use Rattle.rules.specs.declared.Running.{Running}
 use Rattle.rules.specs.declared.Running.the-variants.{Nothing, Runs}
 use Rattle.rules.specs.declared.Chain.{Chain}
 use Rattle.rules.specs.declared.Event.{Event}
-use Rattle.rules.specs.declared.Event.the-variants.{Create, Give, Call, Reply, Block, Wake, Charge, Abort, Refill}
+use Rattle.rules.specs.declared.Event.the-variants.{Create, Give, Call, Reply, Block, Wake, Charge, Abort, Refill, Remove}
 use Rattle.rules.specs.State.{Slice, Plain, limit, freeThread, freeSlice, holdAt, serviceAt, leftAt, liveThreads}
 use Rattle.rules.specs.Order.{topmost}
 use Rattle.rules.specs.Walk.{chainOf, verdict, mayRun, Verdict, runs, retries, waits, stalls}
-use Rattle.rules.specs.Threads.{setHold, created, donate, replied, aborted}
-use Rattle.rules.specs.Timeslices.{given, last, toBack, charged, refilled}
+use Rattle.rules.specs.Threads.{setHold, created, donate, replied, aborted, removed}
+use Rattle.rules.specs.Timeslices.{ownOf, given, last, without, toBack, charged, refilled, struck}
 use Rattle.rules.specs.Refusals.{refusal}
 
 abbrev pub emptyPlain : Plain
@@ -74,6 +74,11 @@ plainCharge units p (Runs n t count) =
     cond (eqb (leftAt (p .slices) t) units) (plainTimeslices (charged t units (p .slices)) (toBack t (p .order)) p)
     (plainTimeslices (charged t units (p .slices)) (p .order) p)
 
+-- Remove: its own timeslice is struck out
+abbrev pub plainStrike : Option ℕ → Plain → Plain
+plainStrike none p = p
+plainStrike (some t) p = plainTimeslices (struck t (p .slices)) (without t (p .order)) p
+
 abbrev pub update : Event → Plain → Plain
 update (Create n r) p = plainThreads (created n r (p .threads)) p
 update (Give t n priority quantum) p = plainTimeslices (given t n priority quantum (p .slices)) (last t (p .order)) p
@@ -84,6 +89,7 @@ update (Wake n) p = plainThreads (setHold n Ready (p .threads)) p
 update (Charge units) p = plainCharge units p (p .running)
 update (Abort n) p = plainThreads (aborted n (p .threads)) p
 update (Refill t) p = plainTimeslices (refilled t (p .slices)) (p .order) p
+update (Remove n) p = plainThreads (removed n (p .threads)) (plainStrike (ownOf (p .slices) n (p .order)) p)
 
 -- "If that end is Idle, the last helper's retry is made as above and it judges again. If the end is Ready, that thread runs,
 -- this timeslice is current, and the count is its chain's." (The others do not let it run.)

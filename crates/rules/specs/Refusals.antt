@@ -1,15 +1,17 @@
 -- Document 01, "Refusals, operation by operation", and the numbers of document 02, after the refusal 1 of an unsound machine. Both
 -- machines refuse by these.
 use Prim.Native.Nat.{ℕ}
-use mathlib.Core.Bool.{Bool, cond, not, _||_}
+use mathlib.Core.Bool.{Bool, true, false, cond, not, _||_}
+use mathlib.Core.Option.{Option, none, some}
 use lib.Dec.{ltb, eqb}
 use Rattle.rules.specs.declared.Event.{Event}
-use Rattle.rules.specs.declared.Event.the-variants.{Create, Give, Call, Reply, Block, Wake, Charge, Abort, Refill}
-use Rattle.rules.specs.Tests.{member, someOf}
-use Rattle.rules.specs.State.{Plain, holdAt, liveAt, ownerAt, leftAt, nothingRuns, runningThread, currentTimeslice}
+use Rattle.rules.specs.declared.Event.the-variants.{Create, Give, Call, Reply, Block, Wake, Charge, Abort, Refill, Remove}
+use Rattle.rules.specs.Tests.{member}
+use Rattle.rules.specs.State.{Plain, holdAt, liveAt, leftAt, nothingRuns, runningThread, currentTimeslice}
 pub use Rattle.rules.specs.Holds.{linked}
 use Rattle.rules.specs.Holds.{isBlocked, serverAt}
 use Rattle.rules.specs.Walk.{hasTime}
+use Rattle.rules.specs.Timeslices.{ownOf}
 
 -- the first fitting number; 0 for none
 infixr 20 _gives_else_
@@ -19,8 +21,12 @@ fits gives number else rest = cond fits number rest
 abbrev pub aboveLimit : ℕ → Bool
 aboveLimit n = ltb 127 n
 
+abbrev pub isOne : Option ℕ → Bool
+isOne none = false
+isOne (some t) = true
+
 abbrev pub ownsOne : Plain → ℕ → Bool
-ownsOne p n = someOf (λ t. eqb (ownerAt (p .slices) t) n) (p .order)
+ownsOne p n = isOne (ownOf (p .slices) n (p .order))
 
 abbrev pub refusal : Event → Plain → ℕ
 refusal (Create n r) p = aboveLimit n gives 2 else liveAt (p .threads) n gives 3 else 0
@@ -56,3 +62,7 @@ refusal (Refill t) p =
     aboveLimit t gives 2 else
     not (member t (p .order)) gives 4 else
     hasTime (p .slices) t gives 18 else 0
+-- Remove, document 02, [3]: "Refused with 1, 2 or 4, in that order."
+refusal (Remove n) p =
+    aboveLimit n gives 2 else
+    not (liveAt (p .threads) n) gives 4 else 0

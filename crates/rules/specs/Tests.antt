@@ -19,11 +19,6 @@ unfoldable pub all : (ℕ → Bool) → List ℕ → Bool
 all f [] = true
 all f (x ∷ xs) = f x && all f xs
 
--- the test holds of some element
-unfoldable pub someOf : (ℕ → Bool) → List ℕ → Bool
-someOf f [] = false
-someOf f (x ∷ xs) = f x || someOf f xs
-
 -- the test holds of every number below n
 unfoldable pub below : ℕ → (ℕ → Bool) → Bool
 below zero f = true

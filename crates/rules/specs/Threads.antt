@@ -1,7 +1,7 @@
--- Document 01, "Events" and "Release and choice": what they do to the threads, in either machine.
+-- Document 01, "Events" and "Release and choice", and document 02, [3]: what they do to the threads, in either machine.
 use Prim.Native.Nat.{ℕ}
-use mathlib.Core.List.{List}
-use mathlib.Core.Bool.{true}
+use mathlib.Core.List.{List, map}
+use mathlib.Core.Bool.{true, cond}
 use lib.ListN.{set}
 use Rattle.rules.specs.declared.Role.{Role}
 use Rattle.rules.specs.declared.Role.the-variants.{Client, Server}
@@ -10,7 +10,8 @@ use Rattle.rules.specs.declared.Hold.the-variants.{Ready, Idle, Blocked,
 use Rattle.rules.specs.declared.Service.{Service}
 use Rattle.rules.specs.declared.Service.the-variants.{Nobody, Serving, Orphan}
 use Rattle.rules.specs.declared.Thread.{Thread}
-use Rattle.rules.specs.State.{threadAt, holdAt, serviceAt}
+use Rattle.rules.specs.State.{freeThread, threadAt, holdAt, serviceAt}
+use Rattle.rules.specs.Holds.{linkedTo}
 
 abbrev pub withHold : Hold → Thread → Thread
 withHold h t = record { live = t .live; role = t .role; hold = h; service = t .service }
@@ -55,3 +56,14 @@ orphanServer (Helping server) ts = ts
 
 unfoldable pub aborted : ℕ → List Thread → List Thread
 aborted n ts = setHold n Ready (orphanServer (holdAt ts n) ts)
+
+-- Remove: "Threads Calling or Helping it become Ready."
+abbrev pub cutFrom : ℕ → Thread → Thread
+cutFrom n t = cond (linkedTo n (t .hold)) (withHold Ready t) t
+
+unfoldable pub linksCut : ℕ → List Thread → List Thread
+linksCut n ts = map (cutFrom n) ts
+
+-- Remove: "A server it was Calling becomes Orphan." "The thread's record is freed"
+unfoldable pub removed : ℕ → List Thread → List Thread
+removed n ts = set (orphanServer (holdAt ts n) (linksCut n ts)) n freeThread

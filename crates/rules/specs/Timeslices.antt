@@ -1,10 +1,16 @@
--- Document 01, "Events", and document 02, [2]: what they do to the timeslices and the turn order, in either machine.
+-- Document 01, "Events", and document 02, [2] and [3]: what they do to the timeslices and the turn order, in either machine.
 use Prim.Native.Nat.{ℕ, _-_}
 use mathlib.Core.List.{List, [], _∷_, _++_}
 use mathlib.Core.Bool.{cond}
+use mathlib.Core.Option.{Option, none, some}
 use lib.ListN.{set}
 use lib.Dec.{eqb}
-use Rattle.rules.specs.State.{Slice, sliceAt, leftAt}
+use Rattle.rules.specs.State.{Slice, freeSlice, sliceAt, ownerAt, leftAt}
+
+-- a thread's own timeslice: "A thread owns at most one."
+unfoldable pub ownOf : List Slice → ℕ → List ℕ → Option ℕ
+ownOf ss n [] = none
+ownOf ss n (t ∷ ts) = cond (eqb (ownerAt ss t) n) (some t) (ownOf ss n ts)
 
 abbrev pub withLeft : ℕ → Slice → Slice
 withLeft n x = record { owner = x .owner; priority = x .priority; quantum = x .quantum; left = n }
@@ -20,6 +26,7 @@ given t owner priority quantum ss = set ss t (record { owner = owner; priority =
 unfoldable pub last : ℕ → List ℕ → List ℕ
 last t order = order ++ (t ∷ [])
 
+-- out of the turn order
 unfoldable pub without : ℕ → List ℕ → List ℕ
 without t [] = []
 without t (u ∷ us) = cond (eqb u t) us (u ∷ without t us)
@@ -35,3 +42,7 @@ charged t units ss = setLeft t (leftAt ss t - units) ss
 -- Refill: "sets left to the quantum"
 unfoldable pub refilled : ℕ → List Slice → List Slice
 refilled t ss = setLeft t (sliceAt ss t .quantum) ss
+
+-- Remove: "Its own timeslice is struck out": `without` it in the turn order, and its slot is free
+unfoldable pub struck : ℕ → List Slice → List Slice
+struck t ss = set ss t freeSlice

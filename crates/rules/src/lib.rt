@@ -1,4 +1,4 @@
-// Document 01, "What belongs to the machine", and document 02, [2]: the records of threads and timeslices, and the events.
+// Document 01, "What belongs to the machine", and document 02, [2] and [3]: the records of threads and timeslices, and the events.
 // What they mean is defined in specs/.
 
 // A thread is a client or a server.
@@ -122,5 +122,8 @@ pub enum Event {
     },
     Refill {
         timeslice: u8,
+    },
+    Remove {
+        thread: u8,
     },
 }

@@ -2,6 +2,7 @@
 pub mod Lookups
 pub mod Walks
 pub mod Along
+pub mod Mapping
 pub mod Above
 pub mod Shifts
 pub mod ReleaseLoop

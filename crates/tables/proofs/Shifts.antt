@@ -1,4 +1,4 @@
--- Going to the back of the turn order: the timeslice is found, and the later ones move up.
+-- Leaving the turn order, or going to its back: the timeslice is found, and the later ones move up.
 use Prim.Native.Nat.{ℕ, suc, _+_, _≤_, _<_}
 use mathlib.Core.Path.{_≡_, refl, sym, _∙_, ap}
 use mathlib.Core.List.{List, [], _∷_, _++_, append-nil}
@@ -10,8 +10,8 @@ use lib.Seq.{take-suc, append-snoc, take-suc-set, take-set-lt, drop-set-lt, getD
 use lib.Dec.{eqb}
 use borrow.Author.Tests.{eq-eqb, ne-eqb}
 use Rattle.rules.specs.Tests.{member}
-use Rattle.rules.specs.Timeslices.{without, last, toBack}
-use Rattle.tables.specs.Turning.{entriesOf, Position, listed, absent, Shifted, Turned}
+use Rattle.rules.specs.Timeslices.{without, last}
+use Rattle.tables.specs.Turning.{entriesOf, Position, listed, absent, Shifted, TakenOut}
 use Rattle.tables.proofs.Lookups.{turn, turns-out, take-entries}
 
 module _ (t live : ℕ) (order : List ℕ) (full : length order ≡ 128) where
@@ -55,7 +55,7 @@ module _ (t live : ℕ) (order : List ℕ) (full : length order ≡ 128) where
       let out = turns-out order live i full (omega (arith, s .end)) in
       absent (sym (rw out at (s .rest))) (omega (arith, s .end))
 
-module _ (t live : ℕ) (first : List ℕ) (from : ℕ) where
+module _ (z live : ℕ) (first : List ℕ) (from : ℕ) where
   -- entry i is to be filled
   pub record Shifting (n : ℕ) (order : List ℕ) (i : ℕ) : Type 0 where
     pub end : n ≡ entriesOf live
@@ -86,32 +86,32 @@ module _ (t live : ℕ) (first : List ℕ) (from : ℕ) where
         free = λ k h. getD-set-other order i k (getD order (i + 1) 0) 0 (λ e. absurd (omega arith)) ∙ s .free k h;
       }
 
-  -- the last live entry: the turn order is what stands before it, then t
-  pub close : (n : ℕ) (order : List ℕ) (i : ℕ) → Shifting n order i → n ≤ i + 1 → Shifted t live first from (set order i t)
+  -- the last live entry: the turn order is what stands before it, then z
+  pub close : (n : ℕ) (order : List ℕ) (i : ℕ) → Shifting n order i → n ≤ i + 1 → Shifted z live first from (set order i z)
   close n order i s past =
       let in-range : i < length order = omega (arith, s .full, s .end) in
       let none : drop (suc i) (take live order) ≡ [] = turns-out order live (suc i) (s .full) (omega (arith, s .end)) in
       let all : take i order ≡ take from first ++ drop (suc from) (take live first) =
       sym (append-nil (take i order)) ∙ ap (λ (l : List ℕ). take i order ++ l) (sym none) ∙ s .turns in
-      let size : length (set order i t) ≡ 128 = length-set order i t ∙ s .full in
+      let size : length (set order i z) ≡ 128 = length-set order i z ∙ s .full in
       let all-but-one : entriesOf live ≡ suc i = omega (arith, s .end, s .inside) in
-      let last-entry : take live (set order i t) ≡ take (suc i) (set order i t) =
-      take-entries (set order i t) live size ∙ ap (λ (k : ℕ). take k (set order i t)) all-but-one in
+      let last-entry : take live (set order i z) ≡ take (suc i) (set order i z) =
+      take-entries (set order i z) live size ∙ ap (λ (k : ℕ). take k (set order i z)) all-but-one in
       record {
-        turns = last-entry ∙ take-suc-set order i t in-range ∙ ap (λ (l : List ℕ). l ++ (t ∷ [])) all;
-        free = λ k h. getD-set-other order i k t 0 (λ q. absurd (omega (arith, s .end))) ∙ s .free k (omega (arith, s .end));
+        turns = last-entry ∙ take-suc-set order i z in-range ∙ ap (λ (l : List ℕ). l ++ (z ∷ [])) all;
+        free = λ k h. getD-set-other order i k z 0 (λ q. absurd (omega (arith, s .end))) ∙ s .free k (omega (arith, s .end));
       }
 
--- a listed timeslice goes to the back
-pub turned : (t live : ℕ) (order : List ℕ) (i : ℕ) (after : List ℕ) → i < entriesOf live → Position t live order i
-    → Shifted t live order i after
-    → Turned t live order after
-unfolding toBack last
-turned t live order i after short (listed m inside others) s =
-    record { turns = s .turns ∙ ap (λ (l : List ℕ). l ++ (t ∷ [])) (sym others) ∙ rw m refl; free = s .free }
-turned t live order i after short (absent m past) s = absurd (omega arith)
+-- a listed timeslice is taken out
+pub taken : (t z live : ℕ) (order : List ℕ) (i : ℕ) (after : List ℕ) → i < entriesOf live → Position t live order i
+    → Shifted z live order i after
+    → TakenOut t z live order after
+unfolding last
+taken t z live order i after short (listed m inside others) s =
+    record { turns = s .turns ∙ ap (λ (l : List ℕ). l ++ (z ∷ [])) (sym others) ∙ rw m refl; free = s .free }
+taken t z live order i after short (absent m past) s = absurd (omega arith)
 
 -- and one that is not listed stays away
-pub unturned : (t live : ℕ) (order : List ℕ) (i : ℕ) → entriesOf live ≤ i → Position t live order i → Turned t live order order
-unturned t live order i past (listed m inside others) = absurd (omega arith)
-unturned t live order i past (absent m out) = record { turns = rw m refl; free = λ k h. refl }
+pub untaken : (t z live : ℕ) (order : List ℕ) (i : ℕ) → entriesOf live ≤ i → Position t live order i → TakenOut t z live order order
+untaken t z live order i past (listed m inside others) = absurd (omega arith)
+untaken t z live order i past (absent m out) = record { turns = rw m refl; free = λ k h. refl }

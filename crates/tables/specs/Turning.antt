@@ -6,7 +6,7 @@ use mathlib.Core.Bool.{true, false, cond}
 use lib.ListN.{getD, take, drop}
 use Rattle.rules.specs.Tests.{member}
 use Rattle.rules.specs.State.{limit}
-use Rattle.rules.specs.Timeslices.{without, toBack}
+use Rattle.rules.specs.Timeslices.{last, without}
 
 -- the live entries, where so many are said to be live: never more than the array has
 abbrev pub entriesOf : ℕ → ℕ
@@ -19,16 +19,24 @@ pub data Position (t live : ℕ) (order : List ℕ) (i : ℕ) : Type 0 where
       → Position t live order i
   absent : member t (take live order) ≡ false → entriesOf live ≤ i → Position t live order i
 
--- entry i is struck out, the later ones move up, and t is the last
-pub record Shifted (t live : ℕ) (order : List ℕ) (i : ℕ) (after : List ℕ) : Type 0 where
-  pub turns : take live after ≡ take i order ++ drop (suc i) (take live order) ++ (t ∷ [])
+-- entry i is left out, the later ones move up, and z is the last
+pub record Shifted (z live : ℕ) (order : List ℕ) (i : ℕ) (after : List ℕ) : Type 0 where
+  pub turns : take live after ≡ take i order ++ drop (suc i) (take live order) ++ (z ∷ [])
   pub free : (k : ℕ) → entriesOf live ≤ k → getD after k 0 ≡ getD order k 0
 
--- a listed timeslice at the back; one that is not listed stays away
-abbrev pub backIfListed : ℕ → List ℕ → List ℕ
-backIfListed t order = cond (member t order) (toBack t order) order
+-- without a listed timeslice, and z last; one that is not listed stays away
+abbrev pub outIfListed : ℕ → ℕ → List ℕ → List ℕ
+outIfListed t z order = cond (member t order) (last z (without t order)) order
 
--- the turn order after that, and the free entries as they were
-pub record Turned (t live : ℕ) (order after : List ℕ) : Type 0 where
-  pub turns : take live after ≡ backIfListed t (take live order)
+-- the live entries after that, and the free ones as they were
+pub record TakenOut (t z live : ℕ) (order after : List ℕ) : Type 0 where
+  pub turns : take live after ≡ outIfListed t z (take live order)
   pub free : (k : ℕ) → entriesOf live ≤ k → getD after k 0 ≡ getD order k 0
+
+-- to the back of the turn order
+abbrev pub Turned : ℕ → ℕ → List ℕ → List ℕ → Type 0
+Turned t live order after = TakenOut t t live order after
+
+-- out of the turn order: the last of the entries that were live is free now, and holds 0
+abbrev pub StruckOut : ℕ → ℕ → List ℕ → List ℕ → Type 0
+StruckOut t live order after = TakenOut t 0 live order after

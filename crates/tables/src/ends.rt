@@ -2,8 +2,10 @@
 ghost use mathlib.Core.Path.{_≡_};
 ghost use mathlib.Core.Bool.{cond};
 ghost use Rattle.rules.specs.Walk.{atEnd, stalls, verdict};
+ghost use Rattle.rules.specs.Events.{endBlocked};
 ghost use Rattle.tables.specs.Verdicts.{verdictOf};
 use crate::lookup::thread_at;
+use crate::records::is_blocked;
 use rules::Chain;
 use rules::Hold;
 use rules::Thread;
@@ -47,4 +49,13 @@ pub fn verdict_of(threads: [Thread; 128], chain: Chain) -> Verdict
     let last = thread_at(threads, chain.end);
     let hold = last.hold;
     judged(chain.looped, hold, chain.links)
+}
+
+// The end of a chain is Blocked.
+pub fn end_blocked(threads: [Thread; 128], chain: Chain) -> bool
+    ensures { λ r. ⌜ r ≡ endBlocked chain threads ⌝ }
+{
+    let last = thread_at(threads, chain.end);
+    let hold = last.hold;
+    is_blocked(hold)
 }

@@ -2,12 +2,12 @@
 ghost use mathlib.Core.Path.{_≡_};
 ghost use mathlib.Core.List.{map};
 ghost use lib.ListN.{take, drop};
-ghost use Rattle.rules.specs.State.{ownerAt};
-ghost use Rattle.rules.specs.Tests.{member as memberOf, someOf};
-ghost use lib.Dec.{eqb};
+ghost use Rattle.rules.specs.Tests.{member as memberOf};
+ghost use Rattle.rules.specs.Timeslices.{ownOf};
+ghost use Rattle.rules.specs.Refusals.{isOne};
 ghost use Rattle.rules.specs.Order.{earlier as earlierOf, standsAbove};
 ghost use Rattle.tables.specs.Timeslices.{sliceOf};
-ghost use Rattle.tables.specs.Sets.{setOf, kindOf, numberOf};
+ghost use Rattle.tables.specs.Sets.{setOf, kindOf, numberOf, soughtOf};
 use crate::numbers::entries;
 use crate::numbers::index;
 use rules::Place;
@@ -119,9 +119,9 @@ pub fn member(order: [u8; 128], live: u8, t: u8) -> bool
     listed_from(order, live, 0, t)
 }
 
-// Some timeslice of the turn order has this owner.
-pub fn owns_one(timeslices: [Timeslice; 128], order: [u8; 128], live: u8, n: u8) -> bool
-    ensures { λ r. ⌜ r ≡ someOf (λ t. eqb (ownerAt (map sliceOf timeslices) t) n) (take live order) ⌝ }
+// The timeslice of the turn order that has this owner.
+pub fn own(timeslices: [Timeslice; 128], order: [u8; 128], live: u8, n: u8) -> Sought
+    ensures { λ r. ⌜ soughtOf r ≡ ownOf (map sliceOf timeslices) n (take live order) ⌝ }
 {
     let last = entries(live);
     let mut i: usize = 0;
@@ -132,11 +132,21 @@ pub fn owns_one(timeslices: [Timeslice; 128], order: [u8; 128], live: u8, n: u8)
         if k < 128 {
             let x = timeslices[k];
             if x.owner == n {
-                return true;
+                return Sought::At(t);
             }
         } else if 0 == n {
-            return true;
+            return Sought::At(t);
         }
     }
-    false
+    Sought::Nothing
+}
+
+pub fn owns_one(timeslices: [Timeslice; 128], order: [u8; 128], live: u8, n: u8) -> bool
+    ensures { λ r. ⌜ r ≡ isOne (ownOf (map sliceOf timeslices) n (take live order)) ⌝ }
+{
+    let found = own(timeslices, order, live, n);
+    match found {
+        Sought::Nothing => false,
+        Sought::At(_) => true,
+    }
 }

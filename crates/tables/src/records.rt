@@ -1,7 +1,7 @@
 // Document 01, "A thread record holds its hold and its service side by side": tests on what one holds.
 ghost use mathlib.Core.Path.{_≡_};
 ghost use Rattle.rules.specs.Sound.{isServer, isReady, isIdle, isCalling, isNobody, isServing, isBlocked};
-ghost use Rattle.rules.specs.Refusals.{linked};
+ghost use Rattle.rules.specs.Holds.{linked, linkedTo};
 use rules::Hold;
 use rules::Role;
 use rules::Service;
@@ -74,6 +74,19 @@ pub fn is_calling(n: u8, hold: Hold) -> bool
         Hold::Blocked => false,
         Hold::Calling(s) => s == n,
         Hold::Helping(_) => false,
+    }
+}
+
+// Calling or Helping that thread.
+pub fn is_linked_to(n: u8, hold: Hold) -> bool
+    ensures { λ r. ⌜ r ≡ linkedTo n hold ⌝ }
+{
+    match hold {
+        Hold::Ready => false,
+        Hold::Idle => false,
+        Hold::Blocked => false,
+        Hold::Calling(s) => s == n,
+        Hold::Helping(s) => s == n,
     }
 }
 

@@ -1,7 +1,9 @@
-// Document 01, "Events" and "Release and choice": what they do to the threads.
+// Document 01, "Events" and "Release and choice", and document 02, [3]: what they do to the threads.
 ghost use mathlib.Core.Path.{_≡_};
 ghost use Rattle.rules.specs.Threads.{setHold, setService, donate, replied as repliedOf, freeCaller, aborted as abortedOf, orphanServer};
+ghost use Rattle.rules.specs.Threads.{cutFrom, linksCut, removed as removedOf};
 use crate::numbers::index;
+use crate::records::is_linked_to;
 use rules::Hold;
 use rules::Service;
 use rules::Thread;
@@ -89,4 +91,49 @@ pub fn aborted(threads: [Thread; 128], n: u8) -> [Thread; 128]
     }
     let left = orphaned(threads, hold);
     with_hold(left, n, Hold::Ready)
+}
+
+// A thread with a link to this one becomes Ready.
+pub fn cut_from(n: u8, thread: Thread) -> Thread
+    ensures { λ r. ⌜ r ≡ cutFrom n thread ⌝ }
+{
+    let hold = thread.hold;
+    if is_linked_to(n, hold) {
+        return Thread {
+            hold: Hold::Ready,
+            ..thread
+        };
+    }
+    thread
+}
+
+pub fn links_cut(mut threads: [Thread; 128], n: u8) -> [Thread; 128]
+    ensures { λ r. ⌜ r ≡ linksCut n threads ⌝ }
+{
+    let mut k: usize = 0;
+    while k < 128 {
+        let a = threads[k];
+        let b = cut_from(n, a);
+        threads[k] = b;
+        k += 1;
+    }
+    threads
+}
+
+// All links into the thread are cut, the server that it was Calling is an orphan, and its record is free.
+pub fn removed(threads: [Thread; 128], n: u8) -> [Thread; 128]
+    ensures { λ r. ⌜ r ≡ removedOf n threads ⌝ }
+{
+    let k = index(n);
+    let mut hold = Hold::Ready;
+    if k < 128 {
+        let t = threads[k];
+        hold = t.hold;
+    }
+    let cut = links_cut(threads, n);
+    let mut left = orphaned(cut, hold);
+    if k < 128 {
+        left[k] = Thread::FREE;
+    }
+    left
 }

@@ -1,6 +1,6 @@
-// Document 01, "Events": what they do to the turn order.
+// Document 01, "Events", and document 02, [3]: what they do to the turn order.
 ghost use Prim.Native.Nat.{_<_};
-ghost use Rattle.tables.specs.Turning.{entriesOf, Position, Shifted, Turned};
+ghost use Rattle.tables.specs.Turning.{entriesOf, Position, Shifted, TakenOut, Turned, StruckOut};
 use crate::numbers::entries;
 
 // Where a timeslice stands first; the number of live entries where it is not listed.
@@ -19,10 +19,10 @@ pub(crate) fn position(order: [u8; 128], live: u8, t: u8) -> usize
     i
 }
 
-// The entries after this one move up, and t is the last.
-pub(crate) fn shifted(mut order: [u8; 128], live: u8, from: usize, t: u8) -> [u8; 128]
+// The entries after this one move up, and `last` fills the last live one.
+pub(crate) fn shifted(mut order: [u8; 128], live: u8, from: usize, last: u8) -> [u8; 128]
     requires { ⌜ from < entriesOf live ⌝ }
-    ensures { λ r. ⌜ Shifted t live order from r ⌝ }
+    ensures { λ r. ⌜ Shifted last live order from r ⌝ }
 {
     let n = entries(live);
     let mut i = from;
@@ -31,7 +31,19 @@ pub(crate) fn shifted(mut order: [u8; 128], live: u8, from: usize, t: u8) -> [u8
         order[i] = u;
         i += 1;
     }
-    order[i] = t;
+    order[i] = last;
+    order
+}
+
+// A listed timeslice is taken out, and `last` fills the last live entry; one that is not listed changes nothing.
+pub(crate) fn taken_out(order: [u8; 128], live: u8, t: u8, last: u8) -> [u8; 128]
+    ensures { λ r. ⌜ TakenOut t last live order r ⌝ }
+{
+    let from = position(order, live, t);
+    let n = entries(live);
+    if from < n {
+        return shifted(order, live, from, last);
+    }
     order
 }
 
@@ -39,10 +51,12 @@ pub(crate) fn shifted(mut order: [u8; 128], live: u8, from: usize, t: u8) -> [u8
 pub fn to_back(order: [u8; 128], live: u8, t: u8) -> [u8; 128]
     ensures { λ r. ⌜ Turned t live order r ⌝ }
 {
-    let from = position(order, live, t);
-    let n = entries(live);
-    if from < n {
-        return shifted(order, live, from, t);
-    }
-    order
+    taken_out(order, live, t, t)
+}
+
+// A timeslice is struck out of the turn order: the entry that it leaves holds 0, as all free entries do.
+pub fn strike_out(order: [u8; 128], live: u8, t: u8) -> [u8; 128]
+    ensures { λ r. ⌜ StruckOut t live order r ⌝ }
+{
+    taken_out(order, live, t, 0)
 }

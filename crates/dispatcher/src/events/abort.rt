@@ -8,13 +8,9 @@ ghost use Rattle.dispatcher.specs.Shown.{shown, soundMachine};
 ghost use Rattle.dispatcher.specs.Promise.{Answers};
 use crate::Answered;
 use crate::Machine;
-use rules::Hold;
-use rules::Place;
+use tables::ends::end_blocked;
 use tables::numbers::index;
-use tables::numbers::wide;
-use tables::records::is_blocked;
 use tables::records::is_linked;
-use tables::release::release;
 use tables::threads::aborted;
 use tables::walk::walk;
 
@@ -27,30 +23,10 @@ impl Machine {
         let threads = self.threads;
         let lives = self.live_threads;
         let chain = walk(threads, lives, n);
-        let end = chain.end;
-        let e = index(end);
-        let mut last = Hold::Ready;
-        if e < 128 {
-            let z = self.threads[e];
-            last = z.hold;
-        }
+        let blocked = end_blocked(threads, chain);
         let next = aborted(threads, n);
         self.threads = next;
-        let links = wide(chain.links);
-        let timeslices = self.timeslices;
-        let order = self.order;
-        let live = self.live_timeslices;
-        if chain.looped {
-            let free = release(timeslices, order, live, Place::Stalled);
-            self.timeslices = free;
-            return self.choose(links);
-        }
-        if is_blocked(last) {
-            let free = release(timeslices, order, live, Place::On(end));
-            self.timeslices = free;
-            return self.choose(links);
-        }
-        self.choose(links)
+        self.settled_after(chain, blocked)
     }
 
     pub(crate) fn dispatch_abort(self, n: u8) -> Answered

@@ -118,6 +118,17 @@ fn refill(operands: &[u8]) -> Found
     })
 }
 
+fn remove(operands: &[u8]) -> Found
+    ensures { λ r. ⌜ r ≡ foundOf (oneByte Event.Remove (now (operands .entry))) ⌝ }
+{
+    if operands.len() != 1 {
+        return Found::Bad;
+    }
+    Found::Record(Event::Remove {
+        thread: operands[0],
+    })
+}
+
 // The kinds of documents 01 and 02, one arm each.
 fn event_of(kind: u8, operands: &[u8]) -> Found
     ensures { λ r. ⌜ r ≡ foundOf (eventOf kind (now (operands .entry))) ⌝ }
@@ -132,6 +143,7 @@ fn event_of(kind: u8, operands: &[u8]) -> Found
         7 => charge(operands),
         8 => abort(operands),
         9 => refill(operands),
+        10 => remove(operands),
         _ => Found::Bad,
     }
 }

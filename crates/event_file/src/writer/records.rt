@@ -41,6 +41,7 @@ fn operand_count(event: Event) -> usize
         Event::Charge { units: _ } => 2,
         Event::Abort { thread: _ } => 1,
         Event::Refill { timeslice: _ } => 1,
+        Event::Remove { thread: _ } => 1,
     }
 }
 
@@ -99,5 +100,6 @@ pub fn put_record(buffer: &mut [u8], at: usize, event: Event)
         Event::Charge { units } => put_charge(buffer, at, units),
         Event::Abort { thread } => put3(buffer, at, 2, 8, thread),
         Event::Refill { timeslice } => put3(buffer, at, 2, 9, timeslice),
+        Event::Remove { thread } => put3(buffer, at, 2, 10, thread),
     }
 }

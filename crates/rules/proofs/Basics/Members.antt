@@ -6,10 +6,10 @@ use mathlib.Core.Bool.{Bool, true, false, not}
 use native.Mathlib.Omega.{arith}
 use lib.Dec.{eqb}
 use borrow.Author.Tests.{eqb-true, eq-eqb, not-true}
-use Rattle.rules.specs.Tests.{member, distinct, all, someOf, below}
+use Rattle.rules.specs.Tests.{member, distinct, all, below}
 use Rattle.rules.proofs.Basics.Views.{clash, is-false, Same, equal, different, same, Either, first, second}
 use Rattle.rules.proofs.Basics.Views.{and-true-left, and-true-right, and-true-both}
-use Rattle.rules.proofs.Basics.Views.{or-true-cases, or-true-left, or-true-right, or-false-left, or-false-right}
+use Rattle.rules.proofs.Basics.Views.{or-true-cases, or-true-left, or-true-right, or-false-right}
 
 -- a member of x ∷ xs is x or a member of xs
 pub data Listed (n x : ℕ) (xs : List ℕ) : Type 0 where
@@ -103,16 +103,6 @@ pub below-of : (f : ℕ → Bool) (k : ℕ) → ((n : ℕ) → n < k → f n ≡
 unfolding below
 below-of f zero g = refl
 below-of f (suc k) g = and-true-both (below k f) (f k) (below-of f k (λ n h. g n (omega arith))) (g k (omega arith))
-
--- `someOf`
-pub some-none : (f : ℕ → Bool) (l : List ℕ) → someOf f l ≡ false → (n : ℕ) → member n l ≡ true → f n ≡ false
-unfolding someOf
-some-none f [] e n h = clash (member n []) h (not-listed n)
-some-none f (x ∷ xs) e n h =
-    each (λ m. f m ≡ false) n x xs
-    (or-false-left (f x) (someOf f xs) e)
-    (some-none f xs (or-false-right (f x) (someOf f xs) e) n)
-    h
 
 -- the image of a member is a member of the images
 pub member-map : (f : ℕ → ℕ) (a : ℕ) (l : List ℕ) → member a l ≡ true → member (f a) (map f l) ≡ true

@@ -1,5 +1,5 @@
--- A change of the threads, where the link of one thread r differs, leaves every timeslice well placed or released.
--- Everything that an event or a retry does to the threads is such a change; what it has to show is where r ended.
+-- A change of the threads, where the link of one thread r differs or all links into it are cut, leaves every timeslice well placed or
+-- released. Everything that an event or a retry does to the threads is such a change; what it has to show is where r ended.
 use Prim.Native.Nat.{ℕ}
 use mathlib.Core.Path.{_≡_, refl, sym, ap, _∙_}
 use mathlib.Core.List.{List}
@@ -11,12 +11,13 @@ use Rattle.rules.specs.declared.Place.the-variants.{Queue, Behind, On, S
 use Rattle.rules.specs.declared.Running.{Running}
 use Rattle.rules.specs.declared.Thread.{Thread}
 use Rattle.rules.specs.declared.Chain.{Chain}
+use Rattle.rules.specs.Tests.{member}
 use Rattle.rules.specs.State.{Slice, State, forget, holdAt, liveAt, placeAt, ownerAt, withThreads, withRunning}
 use Rattle.rules.specs.Walk.{unlinked, linkOf, noLinks}
 use Rattle.rules.proofs.Order.Orders.{is-none}
 use Rattle.rules.proofs.Links.Chains.{linkAt, stop, Ends}
-use Rattle.rules.proofs.Links.Frames.{Differ, kept-end, kept-loop, one-end}
-use Rattle.rules.proofs.Soundness.Shapes.{Turns, Shape}
+use Rattle.rules.proofs.Links.Frames.{Frame, differ-frame, one-end}
+use Rattle.rules.proofs.Soundness.Shapes.{Sane, Turns, Shape}
 use Rattle.rules.proofs.Soundness.Standings.{Waits, blocked, idle, Stalls}
 use Rattle.rules.proofs.Tables.Updates.{Update}
 use Rattle.rules.proofs.Soundness.Places.{owner, Good, Mid}
@@ -25,13 +26,13 @@ use Rattle.rules.proofs.Choosing.Releases.{Ready as OneReady}
 
 -- the turn order does not care which threads are live, so long as owners are
 pub turns-kept : {ts ts′ : List Thread} {ss : List Slice} {order : List ℕ} → Turns ts ss order
-    → ((m : ℕ) → liveAt ts m ≡ true → liveAt ts′ m ≡ true) → Turns ts′ ss order
-turns-kept {ss = ss} x live =
+    → ((t : ℕ) → member t order ≡ true → liveAt ts′ (ownerAt ss t) ≡ true) → Turns ts′ ss order
+turns-kept x live =
     record {
       full = x .full;
       small = x .small;
       once = x .once;
-      owner = λ t h. live (ownerAt ss t) (x .owner t h);
+      owner = live;
       owners = x .owners;
       range = x .range;
       free = x .free;
@@ -50,19 +51,33 @@ pub avoids : (ts : List Thread) {r k m : ℕ} {c d : Chain} → Ends (linkAt ts)
 avoids ts p n = λ c′ d′ q. n (sym (one-end p q))
 
 -- who waits at m still waits there
-pub waits-kept : {ts ts′ : List Thread} {r x m : ℕ} → Differ (linkAt ts) (linkAt ts′) r → Waits ts x m → holdAt ts′ m ≡ holdAt ts m
+pub waits-kept : {ts ts′ : List Thread} {r x m : ℕ} → Frame (linkAt ts) (linkAt ts′) r → Waits ts x m → holdAt ts′ m ≡ holdAt ts m
     → Avoids ts r m → Waits ts′ x m
-waits-kept l (blocked p b) h a = blocked (kept-end l a p) (h ∙ b)
+waits-kept l (blocked p b) h a = blocked (l .ends a p) (h ∙ b)
 waits-kept l (idle e i) h a = idle e (h ∙ i)
+
+-- the threads after a change at r: they are sane, the owners live, and the frame holds
+pub record Reframed (s : State) (ts′ : List Thread) (r : ℕ) : Type 0 where
+  pub sane : Sane ts′
+  pub owners : (t : ℕ) → member t (s .order) ≡ true → liveAt ts′ (owner s t) ≡ true
+  pub frame : Frame (linkAt (s .threads)) (linkAt ts′) r
+
+pub reframed : {s : State} {ts′ : List Thread} {r : ℕ} → Mid s → Update (s .threads) ts′ r → Reframed s ts′ r
+reframed {s} x u =
+    record {
+      sane = u .sane;
+      owners = λ t h. u .live (owner s t) ∙ x .shape .turns .owner t h;
+      frame = differ-frame (u .links);
+    }
 
 -- what happens to the timeslice of owner x that is On thread m: it is released, or waits there still
 pub data OnKept (at : Place → Bool) (ts′ : List Thread) (x m : ℕ) : Type 0 where
   freed : at (On m) ≡ true → OnKept at ts′ x m
   stay : Waits ts′ x m → OnKept at ts′ x m
 
-pub stay-there : {at : Place → Bool} {ts ts′ : List Thread} {r x m : ℕ} → Update ts ts′ r → Waits ts x m → holdAt ts′ m ≡ holdAt ts m
-    → Avoids ts r m → OnKept at ts′ x m
-stay-there u w h a = stay (waits-kept (u .links) w h a)
+pub stay-there : {at : Place → Bool} {s : State} {ts′ : List Thread} {r x m : ℕ} → Reframed s ts′ r → Waits (s .threads) x m
+    → holdAt ts′ m ≡ holdAt (s .threads) m → Avoids (s .threads) r m → OnKept at ts′ x m
+stay-there u w h a = stay (waits-kept (u .frame) w h a)
 
 -- and to the Stalled: they are released, or r ends somewhere
 pub data StalledKept (at : Place → Bool) (ts : List Thread) (r : ℕ) : Type 0 where
@@ -72,18 +87,18 @@ pub data StalledKept (at : Place → Bool) (ts : List Thread) (r : ℕ) : Type 0
 -- what a change of the threads has to show
 pub record Change (at : Place → Bool) (s : State) (ts′ : List Thread) (r : ℕ) : Type 0 where
   pub mid : Mid s
-  pub update : Update (s .threads) ts′ r
+  pub threads : Reframed s ts′ r
   pub queue : at Queue ≡ false
   pub spared : at Spent ≡ false
-  pub on : (x m : ℕ) → Waits (s .threads) x m → OnKept at ts′ x m
+  pub on : (x m : ℕ) → liveAt ts′ x ≡ true → Waits (s .threads) x m → OnKept at ts′ x m
   pub loops : StalledKept at (s .threads) r
 
 module _ {at : Place → Bool} {s : State} {ts′ : List Thread} {r : ℕ} (c : Change at s ts′ r) where
   shape : Shape (forget (withThreads ts′ s))
   shape =
       record {
-        sane = c .update .sane;
-        turns = turns-kept (c .mid .shape .turns) (λ m h. c .update .live m ∙ h);
+        sane = c .threads .sane;
+        turns = turns-kept (c .mid .shape .turns) (c .threads .owners);
       }
 
   on-ready : (t m : ℕ) → placeAt (s .places) t ≡ On m → OnKept at ts′ (owner s t) m → OneReady at (withThreads ts′ s) t
@@ -93,14 +108,14 @@ module _ {at : Place → Bool} {s : State} {ts′ : List Thread} {r : ℕ} (c : 
   stalled-ready : (t : ℕ) → placeAt (s .places) t ≡ Stalled → Stalls (s .threads) (owner s t) → StalledKept at (s .threads) r
       → OneReady at (withThreads ts′ s) t
   stalled-ready t e w (freed k) = selected (rw e k)
-  stalled-ready t e w (stay p) = kept (rw e (kept-loop (c .update .links) p w))
+  stalled-ready t e w (stay p) = kept (rw e (c .threads .frame .loops p w))
 
-  ready : (t : ℕ) (p : Place) → placeAt (s .places) t ≡ p → Good s t p → OneReady at (withThreads ts′ s) t
-  ready t Queue e g = kept (rw e tt)
-  ready t (Behind q) e g = kept (rw e (record { listed = g .listed; queued = g .queued; above = g .above }))
-  ready t (On m) e g = on-ready t m e (c .on (owner s t) m g)
-  ready t Stalled e g = stalled-ready t e g (c .loops)
-  ready t Spent e g = kept (rw e tt)
+  ready : (t : ℕ) → member t (s .order) ≡ true → (p : Place) → placeAt (s .places) t ≡ p → Good s t p → OneReady at (withThreads ts′ s) t
+  ready t h Queue e g = kept (rw e tt)
+  ready t h (Behind q) e g = kept (rw e (record { listed = g .listed; queued = g .queued; above = g .above }))
+  ready t h (On m) e g = on-ready t m e (c .on (owner s t) m (c .threads .owners t h) g)
+  ready t h Stalled e g = stalled-ready t e g (c .loops)
+  ready t h Spent e g = kept (rw e tt)
 
   pub change-releasable : Releasable at (withThreads ts′ s)
   change-releasable =
@@ -110,7 +125,7 @@ module _ {at : Place → Bool} {s : State} {ts′ : List Thread} {r : ℕ} (c : 
         queue = c .queue;
         spared = c .spared;
         spent = c .mid .placed .spent;
-        each = λ t h. ready t (placeAt (s .places) t) refl (c .mid .placed .good t h);
+        each = λ t h. ready t h (placeAt (s .places) t) refl (c .mid .placed .good t h);
         free = c .mid .placed .free;
       }
 
@@ -181,9 +196,9 @@ ready-change {s} {ts′} {n} x u h others =
     let here = ends-here (s .threads) n {c = noLinks} (ap linkOf h) in
     record {
       mid = x;
-      update = u;
+      threads = reframed x u;
       queue = refl;
       spared = refl;
-      on = λ y m w. let o = not-ready w n h in stay-there u w (others m o) (avoids (s .threads) here o);
+      on = λ y m _ w. let o = not-ready w n h in stay-there (reframed x u) w (others m o) (avoids (s .threads) here o);
       loops = stay here;
     }

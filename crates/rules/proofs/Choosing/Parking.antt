@@ -20,7 +20,7 @@ use Rattle.rules.proofs.Order.Orders.{Top}
 use Rattle.rules.proofs.Soundness.Places.{Good, Mid}
 use Rattle.rules.proofs.Choosing.Releases.{Releasable, release-mid, forget-release, Moved, unmoved, chosen, place-after}
 use Rattle.rules.proofs.Choosing.Tops.{queue-top, top-queued}
-use Rattle.rules.proofs.Choosing.Slices.{freed, retimed-releasable, unchanged}
+use Rattle.rules.proofs.Choosing.Slices.{put-listed, freed, retimed-releasable, unchanged}
 
 -- how many members of a list pass a test
 unfoldable pub howMany : (ℕ → Bool) → List ℕ → ℕ
@@ -123,8 +123,10 @@ module _ (s : State) (x : Mid s) (t : ℕ) (e : topmostAt inQueue s ≡ some t) 
   releasable : Releasable (behind t) set-aside
   unfolding set-aside
   releasable =
-      retimed-releasable x (unchanged (x .shape .turns) t (top .listed)) p (good-aside p aside good)
-      (unspent p aside ∙ sym (ap isSpent queued) ∙ x .placed .spent t (top .listed)) (freed (eq-eqb t t refl)) refl refl
+      retimed-releasable x (unchanged (x .shape .turns) t (top .listed)) p
+      (put-listed set-aside t p (top .listed) (good-aside p aside good)
+      (unspent p aside ∙ sym (ap isSpent queued) ∙ x .placed .spent t (top .listed)))
+      (freed (eq-eqb t t refl)) refl refl
 
   pub park-mid : Mid (park t p s)
   unfolding park set-aside

@@ -29,7 +29,7 @@ use Rattle.rules.proofs.Tables.Updates.{PairUpdate, donate-update, idle
 use Rattle.rules.proofs.Soundness.Places.{owner, Good, Mid}
 use Rattle.rules.proofs.Choosing.Releases.{Releasable, release-mid, forget-release, Queued, was, joined-now, queue-after, queue-kept}
 use Rattle.rules.proofs.Choosing.Tops.{queue-top, top-queued, is-queued, topmost-release}
-use Rattle.rules.proofs.Choosing.Changes.{Change, change-releasable, OnKept, freed, stay, stay-there, avoids, ends-here}
+use Rattle.rules.proofs.Choosing.Changes.{Change, reframed, change-releasable, OnKept, freed, stay, stay-there, avoids, ends-here}
 
 -- the last helper of a chain: the thread before its Idle end
 pub record Helper (ts : List Thread) (x n : ℕ) (d : Chain) : Type 0 where
@@ -79,16 +79,16 @@ module _ (s : State) (x : Mid s) (t : ℕ) (e : topmostAt inQueue s ≡ some t) 
   change =
       record {
         mid = x;
-        update = pair .update;
+        threads = reframed x (pair .update);
         queue = refl;
         spared = refl;
-        on = λ y m w. by y m w (same m n);
+        on = λ y m _ w. by y m w (same m n);
         loops = stay helper-ends;
       }
     where
       by : (y m : ℕ) → Waits ts y m → Same m n → OnKept (onThread n) ts′ y m
       by y m w (equal q f) = freed f
-      by y m w (different o f) = stay-there (pair .update) w (pair .others m (other y m w) o) (avoids ts helper-ends o)
+      by y m w (different o f) = stay-there (reframed x (pair .update)) w (pair .others m (other y m w) o) (avoids ts helper-ends o)
 
   releasable : Releasable (onThread n) (withThreads ts′ s)
   releasable = change-releasable change

@@ -27,8 +27,8 @@ use Rattle.rules.proofs.Links.Frames.{kept-up-to}
 use Rattle.rules.proofs.Soundness.Standings.{Target, Waits}
 use Rattle.rules.proofs.Tables.Updates.{HoldUpdate, hold-update, PairUpdate, donate-update, ready-free, helping-free}
 use Rattle.rules.proofs.Soundness.Places.{Settled, runs-on, Sound}
-use Rattle.rules.proofs.Choosing.Changes.{Change, change-releasable, change-mid, ready-change, releasable-running, OnKept, freed}
-use Rattle.rules.proofs.Choosing.Changes.{stay, stay-there, avoids, ends-here, not-ready}
+use Rattle.rules.proofs.Choosing.Changes.{Change, reframed, change-releasable, change-mid, ready-change, releasable-running, OnKept}
+use Rattle.rules.proofs.Choosing.Changes.{freed, stay, stay-there, avoids, ends-here, not-ready}
 use Rattle.rules.proofs.Events.Hands.{Handed, same-limit, Active, active}
 use Rattle.rules.proofs.Basics.Accepting.{passes}
 use Rattle.rules.proofs.Events.Joining.{releases-handed}
@@ -67,13 +67,20 @@ module _ (s : State) (x : Sound s) (caller t count : ℕ) (a : Active s caller t
 
     change : Change (onThread server) s ts′ caller
     change =
-        record { mid = x .mid; update = pair .update; queue = refl; spared = refl; on = λ y m w. by m w (same m server); loops = stay here }
+        record {
+          mid = x .mid;
+          threads = reframed (x .mid) (pair .update);
+          queue = refl;
+          spared = refl;
+          on = λ y m _ w. by m w (same m server);
+          loops = stay here;
+        }
       where
         by : {y : ℕ} (m : ℕ) → Waits (s .threads) y m → Same m server → OnKept (onThread server) ts′ y m
         by m w (equal e f) = freed f
         by m w (different o f) =
             let n = not-ready w caller (a .runs .ready) in
-            stay-there (pair .update) w (pair .others m n o) (avoids (s .threads) here n)
+            stay-there (reframed (x .mid) (pair .update)) w (pair .others m n o) (avoids (s .threads) here n)
 
     -- the current timeslice pays for the server, with one donation more
     settled : Settled (withRunning (Runs server t (count + 1)) (withThreads ts′ s))

@@ -24,7 +24,7 @@ use Rattle.rules.proofs.Order.Orders.{is-top, above-back, member-back, 
 use Rattle.rules.proofs.Soundness.Places.{runs-on, Mid, Sound}
 use Rattle.rules.proofs.Choosing.Releases.{release-mid, forget-release}
 use Rattle.rules.proofs.Choosing.Tops.{queue-top, top-queued}
-use Rattle.rules.proofs.Choosing.Slices.{retimed, freed, stay, retimed-releasable, retimed-mid, stays-put}
+use Rattle.rules.proofs.Choosing.Slices.{retimed, put-listed, freed, stay, retimed-releasable, retimed-mid, stays-put}
 use Rattle.rules.proofs.Events.Hands.{Handed, same-limit, Active, active}
 use Rattle.rules.proofs.Events.Lefts.{left-is, left-owner, left-above, in-table, range, left-retimed, left-changed}
 
@@ -59,7 +59,9 @@ module _ {s : State} (x : Sound s) {n t count : ℕ} (a : Active s n t count) wh
       record {
         mid =
             subst Mid (stays-put s (setLeft t k ss) (s .order) t Queue queued)
-            (retimed-mid (x .mid) r Queue tt (sym timed) (stay refl (λ u g. left-above ss t k inside (s .order) t u ∙ g .above)));
+            (retimed-mid (x .mid) r Queue
+            (put-listed (retimed (setLeft t k ss) (s .order) t Queue s) t Queue (a .listed) tt (sym timed))
+            (stay (a .listed) refl (λ u g. left-above ss t k inside (s .order) t u ∙ g .above)));
         plain = refl;
         settled = λ z. runs-on t n count q (still-top k) (rw (left-owner ss t k inside t) (a .runs));
         unwalked = λ z. refl;
@@ -85,7 +87,9 @@ module _ {s : State} (x : Sound s) {n t count : ℕ} (a : Active s n t count) wh
       record {
         mid =
             release-mid (behind t) after
-            (retimed-releasable (x .mid) r Spent tt (sym none-left) (freed (eq-eqb t t refl)) refl refl);
+            (retimed-releasable (x .mid) r Spent
+            (put-listed after t Spent (member-back t t order (a .listed) ∙ a .listed) tt (sym none-left)) (freed (eq-eqb t t refl))
+            refl refl);
         plain = forget-release (behind t) after;
         settled = λ z. clash true refl z;
         unwalked = λ z. refl;

@@ -13,6 +13,7 @@ use Rattle.rules.specs.declared.Place.{Place}
 use Rattle.rules.specs.declared.Place.the-variants.{Queue, Behind, On, Stalled, Spent}
 use Rattle.rules.specs.declared.Chain.{Chain}
 use Rattle.rules.specs.declared.Event.the-variants.{Create}
+use Rattle.rules.specs.Tests.{member}
 use Rattle.rules.specs.State.{State, forget, limit, holdAt, liveAt, placeAt, withThreads}
 use Rattle.rules.specs.Walk.{Link, noLinks}
 use Rattle.rules.specs.Sound.{isReady}
@@ -78,10 +79,13 @@ module _ {s : State} {ts′ : List Thread} {n : ℕ}
   good-kept t Stalled g = stalls-kept (x .mid .shape .sane) free u (owner s t) g
   good-kept t Spent g = tt
 
+  owners-live : (t : ℕ) → member t (s .order) ≡ true → liveAt ts′ (owner s t) ≡ true
+  owners-live t h = live-kept (x .mid .shape .sane) free u (owner s t) (x .mid .shape .turns .owner t h)
+
   mid-kept : Mid (withThreads ts′ s)
   mid-kept =
       record {
-        shape = record { sane = u .sane; turns = turns-kept (x .mid .shape .turns) (live-kept (x .mid .shape .sane) free u) };
+        shape = record { sane = u .sane; turns = turns-kept (x .mid .shape .turns) owners-live };
         placed =
             record {
               full = x .mid .placed .full;

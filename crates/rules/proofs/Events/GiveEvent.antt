@@ -16,7 +16,7 @@ use Rattle.rules.specs.Refusals.{refusal, aboveLimit, ownsOne}
 use Rattle.rules.specs.Events.{withGiven, give}
 use Rattle.rules.specs.Plain.{update}
 use Rattle.rules.proofs.Basics.Views.{clash, or-false-left}
-use Rattle.rules.proofs.Basics.Members.{some-none}
+use Rattle.rules.proofs.Order.Owners.{none-owned}
 use Rattle.rules.proofs.Order.Orders.{above-last, member-last, member-last-other, distinct-last, length-last}
 use Rattle.rules.proofs.Soundness.Places.{Sound}
 use Rattle.rules.proofs.Basics.Accepting.{passes}
@@ -50,9 +50,7 @@ fresh s t n priority quantum ranges e =
       small = omega (arith, ltb-false 127 t (or-false-left (aboveLimit t) (aboveLimit n) (small .0)));
       unlisted = unlisted .0;
       live = not-false (liveAt (s .threads) n) (live .0);
-      owns-none =
-          λ u h. eqb-false (ownerAt (s .slices) u) n
-          (some-none (λ t. eqb (ownerAt (s .slices) t) n) (s .order) (owns .0) u h);
+      owns-none = none-owned (s .slices) n (s .order) (owns .0);
       low = ranges .0;
       short = ranges .1;
       least = omega arith;
@@ -84,10 +82,10 @@ module _ {s : State} (x : Sound s) {t n priority quantum : ℕ} (f : Fresh s t n
         full = length-set (s .slices) t (newSlice n priority quantum);
         once = distinct-last t (s .order) (f .unlisted) (x .mid .shape .turns .once);
         small = f .small;
-        now = member-last t (s .order);
-        range = given-range;
-        live = rw is-owner (f .live);
-        own = λ u h d e. f .owns-none u h (e ∙ is-owner);
+        range = λ _. given-range;
+        live = λ _. rw is-owner (f .live);
+        own = λ _ u h d e. f .owns-none u h (e ∙ is-owner);
+        gone = λ n. clash (member t (last t (s .order))) (member-last t (s .order)) n;
         listed = λ u d. member-last-other t u (s .order) d;
         others = given-others;
         above = above-last (s .slices) t (s .order);
@@ -101,7 +99,7 @@ unfolding give withGiven
 give-handed s x t n priority quantum f e =
     let g = fresh s t n priority quantum f e in
     let left : leftAt (given t n priority quantum (s .slices)) t ≡ quantum = ap (λ (y : Slice). y .left) (given-now x g) in
-    joins-handed x (given-retimed x g)
+    joins-handed x (given-retimed x g) (member-last t (s .order))
     (λ q h _ z. clash (member t (s .order)) (rw z at h) (g .unlisted))
     (omega (arith, left, g .least))
     (omega (arith, length-last t (s .order)))

@@ -5,7 +5,7 @@ use mathlib.Core.List.{List}
 use mathlib.Core.Bool.{Bool, true, false}
 use mathlib.Core.Option.{some}
 use native.Mathlib.Omega.{arith}
-use native.Mathlib.Nat.{mul-le-mul-left}
+use native.Mathlib.Nat.{mul-le-mul-left, mul-le-mul-right}
 use lib.ListN.{length}
 use Rattle.rules.specs.declared.Running.the-variants.{Runs}
 use Rattle.rules.specs.declared.Thread.{Thread}
@@ -70,11 +70,20 @@ accepts s m p h = by (m .chooses) refl
           links = omega (arith, h .unwalked e);
         }
 
--- the links of a choice from as many threads and timeslices as before
+-- the links of a choice from no more threads and timeslices than before
+pub fewer-limit : (s : State) (links : ℕ) (p : Plain) → links ≤ liveThreads (s .threads)
+    → liveThreads (p .threads) ≤ liveThreads (s .threads) → length (p .order) ≤ length (s .order)
+    → links + liveThreads (p .threads) * (length (p .order) + 1) ≤ linkLimit (forget s)
+fewer-limit s links p h lives turns =
+    let longer : length (p .order) + 1 ≤ length (s .order) + 1 = omega arith in
+    let a = mul-le-mul-left (liveThreads (p .threads)) longer in
+    let b = mul-le-mul-right (length (s .order) + 1) lives in
+    omega (arith, a, b)
+
 pub same-limit : (s : State) (links : ℕ) (p : Plain) → links ≤ liveThreads (s .threads)
     → liveThreads (p .threads) ≡ liveThreads (s .threads) → length (p .order) ≡ length (s .order)
     → links + liveThreads (p .threads) * (length (p .order) + 1) ≤ linkLimit (forget s)
-same-limit s links p h e f = rw (e, f) (omega arith)
+same-limit s links p h e f = fewer-limit s links p h (omega arith) (omega arith)
 
 -- a chain from a live thread comes to live threads
 pub comes-live : {ts : List Thread} → LinksLive ts → {n m : ℕ} {c d : Chain} → liveAt ts n ≡ true → To (linkAt ts) n c m d

@@ -26,7 +26,7 @@ use Rattle.rules.proofs.Soundness.Standings.{RunsAt}
 use Rattle.rules.proofs.Soundness.Places.{owner, Settled, nothing, runs-on, Sound}
 use Rattle.rules.proofs.Choosing.Releases.{Releasable, Released, nobody, joins as joins-queue, released, release-mid, forget-release}
 use Rattle.rules.proofs.Choosing.Tops.{queue-top, top-queued, top-stays}
-use Rattle.rules.proofs.Choosing.Slices.{Retimed, owner-kept, retimed, stay, retimed-mid, retimed-top}
+use Rattle.rules.proofs.Choosing.Slices.{Retimed, owner-kept, retimed, put-listed, stay, retimed-mid, retimed-top}
 use Rattle.rules.proofs.Events.Hands.{linkLimit, Handed, same-limit, active}
 
 -- the same runs after a release
@@ -90,7 +90,7 @@ releases-handed s n s₁ x settled lives turns =
 
 -- a timeslice joins Queue that was not there: nobody stands Behind it, and what ran still runs unless it stands above
 module _ {s : State} (x : Sound s) {ss′ : List Slice} {order′ : List ℕ} {t : ℕ}
-    (r : Retimed (s .threads) (s .slices) ss′ (s .order) order′ t)
+    (r : Retimed (s .threads) (s .slices) ss′ (s .order) order′ t) (now : member t order′ ≡ true)
     (outside : (q : ℕ) → member q (s .order) ≡ true → placeAt (s .places) q ≡ Queue → q ≡ t → ⊥) where
   settled-joined : (running : Running) → s .running ≡ running → aboveRunning (retimed ss′ order′ t Queue s) t running ≡ false
       → Settled (retimed ss′ order′ t Queue s)
@@ -108,7 +108,9 @@ module _ {s : State} (x : Sound s) {ss′ : List Slice} {order′ : List ℕ} {t
       let few : liveThreads (s .threads) * (length order′ + 1) ≤ linkLimit (forget s) =
       mul-le-mul-left (liveThreads (s .threads)) (omega arith) in
       record {
-        mid = retimed-mid (x .mid) r Queue tt (sym timed) (stay refl (λ u led. absurd (outside t (led .listed) (led .queued) refl)));
+        mid =
+            retimed-mid (x .mid) r Queue (put-listed (retimed ss′ order′ t Queue s) t Queue now tt (sym timed))
+            (stay now refl (λ u led. absurd (outside t (led .listed) (led .queued) refl)));
         plain = refl;
         settled = settled-joined (s .running) refl;
         unwalked = λ z. refl;

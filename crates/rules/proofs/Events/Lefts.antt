@@ -12,7 +12,7 @@ use Rattle.rules.specs.State.{Slice, State, limit, freeSlice, sliceAt, o
 use Rattle.rules.specs.Order.{standsAbove}
 use Rattle.rules.specs.Timeslices.{withLeft, setLeft}
 use Rattle.rules.specs.Sound.{inRange}
-use Rattle.rules.proofs.Basics.Views.{Same, equal, different, same, and4}
+use Rattle.rules.proofs.Basics.Views.{clash, Same, equal, different, same, and4}
 use Rattle.rules.proofs.Order.Orders.{above-same}
 use Rattle.rules.proofs.Soundness.Places.{Mid}
 use Rattle.rules.proofs.Choosing.Slices.{Retimed}
@@ -87,10 +87,10 @@ module _ {s : State} (x : Mid s) (t : ℕ) (listed : member t (s .order) ≡ tru
         full = length-set ss t (withLeft k (sliceAt ss t));
         once = d;
         small = small;
-        now = members t ∙ listed;
-        range = ap inRange (left-now ss t k in-table) ∙ range .again k m;
-        live = rw (kept t) (turns .owner t listed);
-        own = λ u h n e. n (turns .owners u t h listed (e ∙ kept t));
+        range = λ _. ap inRange (left-now ss t k in-table) ∙ range .again k m;
+        live = λ _. rw (kept t) (turns .owner t listed);
+        own = λ _ u h n e. n (turns .owners u t h listed (e ∙ kept t));
+        gone = λ n. clash (member t order′) (members t ∙ listed) n;
         listed = λ u n. members u;
         others = left-others ss t k in-table;
         above = above;

@@ -32,7 +32,7 @@ refill-handed s x t e =
     let quantum = sliceAt (s .slices) t .quantum in
     let none-left : eqb (leftAt (s .slices) t) 0 ≡ true = not-false (eqb (leftAt (s .slices) t) 0) (c .0) in
     let spent : isSpent (placeAt (s .places) t) ≡ true = x .mid .placed .spent t listed ∙ none-left in
-    joins-handed x (left-changed (x .mid) t listed quantum (omega arith))
+    joins-handed x (left-changed (x .mid) t listed quantum (omega arith)) listed
     (λ q _ queued z. clash (isSpent (placeAt (s .places) t)) spent (ap isSpent (sym (ap (placeAt (s .places)) z) ∙ queued)))
     (omega (arith, left-is (s .slices) t quantum (in-table (x .mid) t listed), range (x .mid) t listed .least))
     (omega arith)

@@ -27,7 +27,7 @@ use Rattle.rules.proofs.Links.Frames.{at-once, Donor, donor}
 use Rattle.rules.proofs.Soundness.Standings.{donation-is}
 use Rattle.rules.proofs.Tables.Updates.{orphan-update, PairUpdate, reply-update, ready-serves}
 use Rattle.rules.proofs.Soundness.Places.{owner, Settled, runs-on, Sound}
-use Rattle.rules.proofs.Choosing.Changes.{Change, nowhere, change-mid, mid-running, ready-change, stay, stay-there, avoids}
+use Rattle.rules.proofs.Choosing.Changes.{Change, reframed, nowhere, change-mid, mid-running, ready-change, stay, stay-there, avoids}
 use Rattle.rules.proofs.Choosing.Changes.{not-ready, not-calling}
 use Rattle.rules.proofs.Events.Hands.{Handed, same-limit, Active, active}
 use Rattle.rules.proofs.Basics.Accepting.{passes}
@@ -64,12 +64,13 @@ module _ (s : State) (x : Sound s) (server t count : ℕ) (a : Active s server t
     change =
         record {
           mid = x .mid;
-          update = pair .update;
+          threads = reframed (x .mid) (pair .update);
           queue = refl;
           spared = refl;
-          on = λ y m w.
+          on = λ y m _ w.
               let n = not-ready w server (a .runs .ready) in
-              stay-there (pair .update) w (pair .others m (not-calling w caller server calls) n) (avoids (s .threads) there n);
+              stay-there (reframed (x .mid) (pair .update)) w (pair .others m (not-calling w caller server calls) n)
+              (avoids (s .threads) there n);
           loops = stay there;
         }
 

@@ -23,7 +23,7 @@ use Rattle.rules.proofs.Links.Frames.{kept-end}
 use Rattle.rules.proofs.Soundness.Standings.{Waits}
 use Rattle.rules.proofs.Tables.Updates.{HoldUpdate, hold-update, ready-free, blocked-free}
 use Rattle.rules.proofs.Soundness.Places.{Settled, nothing, runs-on, Sound}
-use Rattle.rules.proofs.Choosing.Changes.{Change, change-releasable, OnKept, freed, stay, stay-there, avoids, ends-here}
+use Rattle.rules.proofs.Choosing.Changes.{Change, reframed, change-releasable, OnKept, freed, stay, stay-there, avoids, ends-here}
 use Rattle.rules.proofs.Events.Hands.{Handed}
 use Rattle.rules.proofs.Basics.Accepting.{passes}
 use Rattle.rules.proofs.Events.Joining.{releases-handed}
@@ -49,11 +49,18 @@ module _ (s : State) (x : Sound s) (n : ℕ) (live : liveAt (s .threads) n ≡ t
 
   change : Change (onThread n) s ts′ n
   change =
-      record { mid = x .mid; update = woken .update; queue = refl; spared = refl; on = λ y m w. by y m w (same m n); loops = stay here }
+      record {
+        mid = x .mid;
+        threads = reframed (x .mid) (woken .update);
+        queue = refl;
+        spared = refl;
+        on = λ y m _ w. by y m w (same m n);
+        loops = stay here;
+      }
     where
       by : (y m : ℕ) → Waits (s .threads) y m → Same m n → OnKept (onThread n) ts′ y m
       by y m w (equal e f) = freed f
-      by y m w (different o f) = stay-there (woken .update) w (woken .others m o) (avoids (s .threads) here o)
+      by y m w (different o f) = stay-there (reframed (x .mid) (woken .update)) w (woken .others m o) (avoids (s .threads) here o)
 
   -- what ran still runs: its chain ended, Ready, elsewhere
   settled : Settled s → Settled (withThreads ts′ s)

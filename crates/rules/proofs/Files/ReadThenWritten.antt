@@ -10,7 +10,7 @@ use lib.Seq.{length-take-le, getD-drop}
 use lib.Dec.{leb, eqb}
 use borrow.Author.Tests.{le-leb, leb-true, eqb-true}
 use Rattle.rules.specs.declared.Event.{Event}
-use Rattle.rules.specs.declared.Event.the-variants.{Call, Reply, Block, Wake, Charge, Abort, Refill}
+use Rattle.rules.specs.declared.Event.the-variants.{Call, Reply, Block, Wake, Charge, Abort, Refill, Remove}
 use Rattle.rules.specs.Tests.{all}
 use Rattle.rules.specs.EventFile.{Bytes, wordOf, highByte, lowByte, kindOf, operandsOf, recordOf, recordsOf, fourBytes, fileOf}
 use Rattle.rules.specs.EventFile.{noOperand, oneByte, oneWord, createFrom, giveFrom, eventOf, bodyOf, recordAt, byte, fits, allFit}
@@ -85,7 +85,8 @@ kind-good kind l bs =
     (is 6 (oneByte Wake l) _ (oneByte-good 6 Wake (λ a. refl) l)
     (is 7 (oneWord Charge l) _ (charge-good l bs)
     (is 8 (oneByte Abort l) _ (oneByte-good 8 Abort (λ a. refl) l)
-    (is 9 (oneByte Refill l) none (oneByte-good 9 Refill (λ a. refl) l) tt))))))))
+    (is 9 (oneByte Refill l) _ (oneByte-good 9 Refill (λ a. refl) l)
+    (is 10 (oneByte Remove l) none (oneByte-good 10 Remove (λ a. refl) l) tt)))))))))
   where
     is : (k : ℕ) (x y : Option Event) → Good (k ∷ l) x → Good (kind ∷ l) y → Good (kind ∷ l) (cond (eqb kind k) x y)
     is k x y f g = either (kind ∷ l) (eqb kind k) x y (λ e. subst⁻¹ (λ (n : ℕ). Good (n ∷ l) x) (eqb-true kind k e) f) g

@@ -1,9 +1,10 @@
--- What stays true of a chain when the link of one thread changes. Every change of an event and of a retry is of this kind.
+-- What stays true of a chain when the link of one thread changes, or all links into one thread are cut. Every change of an event and of a
+-- retry is of one kind or the other.
 use Prim.Native.Nat.{ℕ, _+_, _<_}
 use mathlib.Core.Path.{_≡_, refl, sym, ap, _∙_, subst}
 use native.Mathlib.Omega.{arith}
 use Rattle.rules.specs.declared.Chain.{Chain}
-use Rattle.rules.specs.Walk.{Link, unlinked, donation, helping}
+use Rattle.rules.specs.Walk.{Link, unlinked, donation, helping, donated, helped}
 use Rattle.rules.proofs.Basics.Views.{Same, equal, different, same}
 use Rattle.rules.proofs.Links.Chains.{To, stop, call, help, Ends, Split, via, split, again, joins, Last, none, donates, helps}
 use Rattle.rules.proofs.Links.Chains.{same as unchanged}
@@ -76,6 +77,87 @@ kept-loop {ln} {ln′} {r} {k} x end {n} {c} never m d p = by (split r (turned x
     by : Split ln′ ln r n c m d → ⊥
     by (unchanged q) = at-end q (same m r)
     by (via q′ q rest) = past q
+
+-- Links are cut: a thread keeps its link, or it has none now and led to thread r.
+pub data Cut (ln ln′ : ℕ → Link) (r n : ℕ) : Type 0 where
+  keeps : ln′ n ≡ ln n → Cut ln ln′ r n
+  cut : {c d : Chain} → ln′ n ≡ unlinked → To ln n c r d → Cut ln ln′ r n
+
+abbrev pub Cuts : (ℕ → Link) → (ℕ → Link) → ℕ → Type 0
+Cuts ln ln′ r = (n : ℕ) → Cut ln ln′ r n
+
+-- who leads to r ends where r ends
+leads : {ln : ℕ → Link} {n n′ r m : ℕ} {c c′ d d′ : Chain} → n ≡ n′ → To ln n c r d → To ln n′ c′ m d′ → ln m ≡ unlinked
+    → ((e f : Chain) → Ends ln r e m f → ⊥) → ⊥
+leads {ln = ln} {m = m} {c′ = c′} {d′ = d′} z stop q u never =
+    never c′ d′ (record { path = subst (λ (k : ℕ). To ln k c′ m d′) (sym z) q; last = u })
+leads {ln = ln} z (call e p) stop u never = no-both (rw (sym z) at u) e
+leads {ln = ln} z (call e p) (call f q) u never = leads (cc (ap ln z)) p q u never
+leads {ln = ln} z (call e p) (help f q) u never = let w : _≡_ {A = ℕ} 0 1 = cc (ap ln z) in absurd (omega arith)
+leads {ln = ln} z (help e p) stop u never = no-both-help (rw (sym z) at u) e
+leads {ln = ln} z (help e p) (call f q) u never = let w : _≡_ {A = ℕ} 0 1 = cc (ap ln z) in absurd (omega arith)
+leads {ln = ln} z (help e p) (help f q) u never = leads (cc (ap ln z)) p q u never
+
+module _ {ln ln′ : ℕ → Link} {r : ℕ} (x : Cuts ln ln′ r) where
+  -- a chain that ends where r did not end has lost no link
+  uncut : {n m : ℕ} {c d : Chain} → ((e f : Chain) → Ends ln r e m f → ⊥) → To ln n c m d → ln m ≡ unlinked → To ln′ n c m d
+  uncut never stop u = stop
+  uncut {m = m} never (call {n = n} {s = s} {c = c} {d = d} e p) u = by (uncut never p u) (x n)
+    where
+      by : To ln′ s (donated c) m d → Cut ln ln′ r n → To ln′ n c m d
+      by rest (keeps k) = call (k ∙ e) rest
+      by rest (cut k q) = absurd (leads refl q (call {c = c} e p) u never)
+  uncut {m = m} never (help {n = n} {s = s} {c = c} {d = d} e p) u = by (uncut never p u) (x n)
+    where
+      by : To ln′ s (helped n c) m d → Cut ln ln′ r n → To ln′ n c m d
+      by rest (keeps k) = help (k ∙ e) rest
+      by rest (cut k q) = absurd (leads refl q (help {c = c} e p) u never)
+
+  -- every link that is left was there before
+  before : {n m : ℕ} {c d : Chain} → To ln′ n c m d → To ln n c m d
+  before stop = stop
+  before {m = m} (call {n = n} {s = s} {c = c} {d = d} e p) = by (before p) (x n)
+    where
+      by : To ln s (donated c) m d → Cut ln ln′ r n → To ln n c m d
+      by rest (keeps k) = call (sym k ∙ e) rest
+      by rest (cut k q) = no-both k e
+  before {m = m} (help {n = n} {s = s} {c = c} {d = d} e p) = by (before p) (x n)
+    where
+      by : To ln s (helped n c) m d → Cut ln ln′ r n → To ln n c m d
+      by rest (keeps k) = help (sym k ∙ e) rest
+      by rest (cut k q) = no-both-help k e
+
+  -- THE FRAME, for links cut, and an end
+  cut-end : {n m : ℕ} {c d : Chain} → ((e f : Chain) → Ends ln r e m f → ⊥) → Ends ln n c m d → Ends ln′ n c m d
+  cut-end {m = m} never p = record { path = uncut never (p .path) (p .last); last = by (x m) }
+    where
+      by : Cut ln ln′ r m → ln′ m ≡ unlinked
+      by (keeps k) = k ∙ p .last
+      by (cut k q) = k
+
+  -- THE FRAME, for links cut, and a loop
+  cut-loop : {k : ℕ} {c₀ d₀ : Chain} → Ends ln r c₀ k d₀ → {n : ℕ} {c : Chain}
+      → ((m : ℕ) (d : Chain) → Ends ln n c m d → ⊥) → (m : ℕ) (d : Chain) → Ends ln′ n c m d → ⊥
+  cut-loop {k} end never m d p = by (x m)
+    where
+      by : Cut ln ln′ r m → ⊥
+      by (keeps f) = never m d (record { path = before (p .path); last = sym f ∙ p .last })
+      by (cut f q) =
+          let there = again q d in
+          let rest = again (end .path) (there .chain) in
+          never k (rest .chain) (record { path = joins (before (p .path)) (joins (there .path) (rest .path)); last = end .last })
+
+-- what both kinds of change say, where r is the thread that changed or into which the links were cut
+pub record Frame (ln ln′ : ℕ → Link) (r : ℕ) : Type 0 where
+  pub ends : {n m : ℕ} {c d : Chain} → ((c′ d′ : Chain) → Ends ln r c′ m d′ → ⊥) → Ends ln n c m d → Ends ln′ n c m d
+  pub loops : {k : ℕ} {c₀ d₀ : Chain} → Ends ln r c₀ k d₀ → {n : ℕ} {c : Chain}
+      → ((m : ℕ) (d : Chain) → Ends ln n c m d → ⊥) → (m : ℕ) (d : Chain) → Ends ln′ n c m d → ⊥
+
+pub differ-frame : {ln ln′ : ℕ → Link} {r : ℕ} → Differ ln ln′ r → Frame ln ln′ r
+differ-frame x = record { ends = λ never p. kept-end x never p; loops = λ end never m d p. kept-loop x end never m d p }
+
+pub cut-frame : {ln ln′ : ℕ → Link} {r : ℕ} → Cuts ln ln′ r → Frame ln ln′ r
+cut-frame x = record { ends = λ never p. cut-end x never p; loops = λ end never m d p. cut-loop x end never m d p }
 
 -- THE FRAME, for a chain up to the changed thread, which had no link: it comes there as before.
 pub kept-up-to : {ln ln′ : ℕ → Link} {r : ℕ} → Differ ln ln′ r → {n : ℕ} {c d : Chain} → ln r ≡ unlinked → To ln n c r d → To ln′ n c r d

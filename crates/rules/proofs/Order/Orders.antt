@@ -335,7 +335,7 @@ without-cases : (P : List ℕ → Type 0) (t x : ℕ) (xs : List ℕ)
 without-cases P t x xs f g = without-by P t x xs f g (same x t)
 
 -- the other members stay, and t goes if it stood there once
-member-without-other : (t u : ℕ) (order : List ℕ) → (u ≡ t → ⊥) → member u (without t order) ≡ member u order
+pub member-without-other : (t u : ℕ) (order : List ℕ) → (u ≡ t → ⊥) → member u (without t order) ≡ member u order
 unfolding without member
 member-without-other t u [] n = refl
 member-without-other t u (x ∷ xs) n =
@@ -343,7 +343,7 @@ member-without-other t u (x ∷ xs) n =
     (λ e. rw (ne-eqb u x (λ p. n (p ∙ e))))
     (λ d. ap (λ (r : Bool). eqb u x || r) (member-without-other t u xs n))
 
-member-without : (t : ℕ) (order : List ℕ) → distinct order ≡ true → member t (without t order) ≡ false
+pub member-without : (t : ℕ) (order : List ℕ) → distinct order ≡ true → member t (without t order) ≡ false
 unfolding without member
 member-without t [] d = refl
 member-without t (x ∷ xs) d =
@@ -352,7 +352,7 @@ member-without t (x ∷ xs) d =
     (λ n. rw (ne-eqb t x (λ e. n (sym e))) (member-without t xs (distinct-tail x xs d)))
 
 -- nothing is repeated that was not, one element is gone, and the others keep their order
-distinct-without : (t : ℕ) (order : List ℕ) → distinct order ≡ true → distinct (without t order) ≡ true
+pub distinct-without : (t : ℕ) (order : List ℕ) → distinct order ≡ true → distinct (without t order) ≡ true
 unfolding without
 distinct-without t [] d = d
 distinct-without t (x ∷ xs) d =
@@ -363,7 +363,7 @@ distinct-without t (x ∷ xs) d =
     (member-without-other t x xs n ∙ distinct-head x xs d)
     (distinct-without t xs (distinct-tail x xs d)))
 
-length-without : (t : ℕ) (order : List ℕ) → member t order ≡ true → suc (length (without t order)) ≡ length order
+pub length-without : (t : ℕ) (order : List ℕ) → member t order ≡ true → suc (length (without t order)) ≡ length order
 length-without t [] h = clash (member t []) h (not-listed t)
 length-without t (x ∷ xs) h =
     without-cases (λ l. suc (length l) ≡ suc (length xs)) t x xs
@@ -377,6 +377,10 @@ earlier-without t (x ∷ xs) a b na nb =
     without-cases (λ l. earlier l a b ≡ earlier (x ∷ xs) a b) t x xs
     (λ e. rw (ne-eqb x b (λ p. nb (sym p ∙ e)), ne-eqb x a (λ p. na (sym p ∙ e))))
     (λ n. ap (λ (r : Bool). cond (eqb x b) false (cond (eqb x a) true r)) (earlier-without t xs a b na nb))
+
+pub above-without : (ss : List Slice) (t : ℕ) (order : List ℕ) (a b : ℕ) → (a ≡ t → ⊥) → (b ≡ t → ⊥)
+    → standsAbove ss (without t order) a b ≡ standsAbove ss order a b
+above-without ss t order a b na nb = above-order ss (without t order) order a b (earlier-without t order a b na nb)
 
 -- a listed timeslice goes to the back; every member stays one: t at the end, the others where they were
 member-back-by : (t u : ℕ) (order : List ℕ) → member t order ≡ true → Same u t → member u (last t (without t order)) ≡ member u order
@@ -400,4 +404,4 @@ pub above-back : (ss : List Slice) (t : ℕ) (order : List ℕ) (a b : ℕ) → 
     → standsAbove ss (toBack t order) a b ≡ standsAbove ss order a b
 unfolding toBack
 above-back ss t order a b na nb =
-    above-last ss t (without t order) a b na nb ∙ above-order ss (without t order) order a b (earlier-without t order a b na nb)
+    above-last ss t (without t order) a b na nb ∙ above-without ss t order a b na nb

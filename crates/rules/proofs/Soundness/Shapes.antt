@@ -69,7 +69,7 @@ serving-is Orphan n e = clash false e refl
 is-serving : (v : Service) (n : ℕ) → v ≡ Serving n → isServing n v ≡ true
 is-serving v n e = rw e (eq-eqb n n refl)
 
-calling-is : (h : Hold) (s : ℕ) → isCalling s h ≡ true → h ≡ Calling s
+pub calling-is : (h : Hold) (s : ℕ) → isCalling s h ≡ true → h ≡ Calling s
 calling-is Ready s e = clash false e refl
 calling-is Idle s e = clash false e refl
 calling-is Blocked s e = clash false e refl

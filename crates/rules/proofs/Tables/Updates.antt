@@ -124,23 +124,23 @@ free-good n (Calling s) f to = absurd (f .uncalled s refl)
 free-good n (Helping s) f to = target-good (to s refl)
 
 -- a link is as good in a table where the live threads are live with the same roles
-record Stays (ts ts′ : List Thread) (s : ℕ) : Type 0 where
-  live : liveAt ts′ s ≡ true
-  role : roleAt ts′ s ≡ roleAt ts s
+pub record Stays (ts ts′ : List Thread) (s : ℕ) : Type 0 where
+  pub live : liveAt ts′ s ≡ true
+  pub role : roleAt ts′ s ≡ roleAt ts s
 
-module _ {ts ts′ : List Thread} (stay : (s : ℕ) → liveAt ts s ≡ true → Stays ts ts′ s) where
-  target-stays : (n s : ℕ) → linkTo ts n s ≡ true → linkTo ts′ n s ≡ true
-  target-stays n s e =
-      let z = and3 (liveAt ts s) (serverAt ts s) (not (eqb s n)) e in
-      let y = stay s (z .0) in
-      simp (y .live, y .role, z .1, z .2)
+pub target-stays : {ts ts′ : List Thread} (n s : ℕ) → (liveAt ts s ≡ true → Stays ts ts′ s) → linkTo ts n s ≡ true → linkTo ts′ n s ≡ true
+target-stays {ts} n s stay e =
+    let z = and3 (liveAt ts s) (serverAt ts s) (not (eqb s n)) e in
+    let y = stay (z .0) in
+    simp (y .live, y .role, z .1, z .2)
 
-  link-stays : (n : ℕ) (h : Hold) → linkGood ts n h ≡ true → linkGood ts′ n h ≡ true
-  link-stays n Ready e = refl
-  link-stays n Idle e = refl
-  link-stays n Blocked e = refl
-  link-stays n (Calling s) e = target-stays n s e
-  link-stays n (Helping s) e = target-stays n s e
+link-stays : {ts ts′ : List Thread} → ((s : ℕ) → liveAt ts s ≡ true → Stays ts ts′ s) → (n : ℕ) (h : Hold)
+    → linkGood ts n h ≡ true → linkGood ts′ n h ≡ true
+link-stays stay n Ready e = refl
+link-stays stay n Idle e = refl
+link-stays stay n Blocked e = refl
+link-stays stay n (Calling s) e = target-stays n s (stay s) e
+link-stays stay n (Helping s) e = target-stays n s (stay s) e
 
 -- whoever has a free hold calls nobody
 free-calls : (h : Hold) → Free h → donee (linkOf h) ≡ none

@@ -6,6 +6,7 @@ use mathlib.Core.Bool.{Bool, true, false}
 use native.Mathlib.Omega.{arith}
 use lib.ListN.{length, getD, set, length-set, List·getD-map}
 use lib.Seq.{getD-set-same, getD-set-other, map-set-same}
+use borrow.Author.Tests.{eqb-false}
 use Rattle.rules.specs.declared.Role.{Role}
 use Rattle.rules.specs.declared.Hold.{Hold}
 use Rattle.rules.specs.declared.Hold.the-variants.{Ready, Idle, Blocked, Calling, Helping}
@@ -15,6 +16,7 @@ use Rattle.rules.specs.declared.Thread.{Thread}
 use Rattle.rules.specs.State.{freeThread, threadAt, holdAt, serviceAt, liveAt, liveThreads, oneMoreIf}
 use Rattle.rules.specs.Threads.{withHold, withService, setHold, setService, startsAs, created, donate, freeCaller, replied}
 use Rattle.rules.specs.Threads.{orphanServer, aborted}
+use Rattle.rules.specs.Holds.{isCalling}
 use Rattle.rules.proofs.Basics.Views.{clash}
 
 abbrev pub roleAt : List Thread → ℕ → Role
@@ -56,6 +58,15 @@ set-raises-count [] n t h free live = absurd (omega arith)
 set-raises-count (x ∷ ts) zero t h free live = rw (free, live)
 set-raises-count (x ∷ ts) (suc n) t h free live =
     ap (oneMoreIf (x .live)) (set-raises-count ts n t (omega arith) free live) ∙ one-more (x .live) (liveThreads ts)
+
+-- and one less where a live one is freed
+pub set-lowers-count : (ts : List Thread) (n : ℕ) (t : Thread) → n < length ts → liveAt ts n ≡ true → t .live ≡ false
+    → suc (liveThreads (set ts n t)) ≡ liveThreads ts
+unfolding liveThreads
+set-lowers-count [] n t h live free = absurd (omega arith)
+set-lowers-count (x ∷ ts) zero t h live free = rw (free, live)
+set-lowers-count (x ∷ ts) (suc n) t h live free =
+    sym (one-more (x .live) (liveThreads (set ts n t))) ∙ ap (oneMoreIf (x .live)) (set-lowers-count ts n t (omega arith) live free)
 
 -- what every change of holds and services keeps
 pub record Relabels (ts ts′ : List Thread) : Type 0 where
@@ -139,12 +150,30 @@ replied-relabels ts server =
     (then-relabels (freed-relabels ts (serviceAt ts server)) (hold-relabels _ server Idle))
     (service-relabels _ server Nobody)
 
-orphaned-relabels : (ts : List Thread) (h : Hold) → Relabels ts (orphanServer h ts)
+pub orphaned-relabels : (ts : List Thread) (h : Hold) → Relabels ts (orphanServer h ts)
 orphaned-relabels ts Ready = same-relabels ts
 orphaned-relabels ts Idle = same-relabels ts
 orphaned-relabels ts Blocked = same-relabels ts
-orphaned-relabels ts (Calling server) = service-relabels ts server Orphan
+orphaned-relabels ts (Calling server) = service-relabels ts server _
 orphaned-relabels ts (Helping server) = same-relabels ts
+
+-- the server called is left an orphan, and nothing else changes
+pub orphaned-hold : (ts : List Thread) (h : Hold) (m : ℕ) → holdAt (orphanServer h ts) m ≡ holdAt ts m
+orphaned-hold ts Ready m = refl
+orphaned-hold ts Idle m = refl
+orphaned-hold ts Blocked m = refl
+orphaned-hold ts (Calling server) m = service-hold ts server m _
+orphaned-hold ts (Helping server) m = refl
+
+pub orphaned-other : (ts : List Thread) (h : Hold) (m : ℕ) → isCalling m h ≡ false → serviceAt (orphanServer h ts) m ≡ serviceAt ts m
+orphaned-other ts Ready m e = refl
+orphaned-other ts Idle m e = refl
+orphaned-other ts Blocked m e = refl
+orphaned-other ts (Calling server) m e = service-there ts server m _ (λ z. eqb-false server m e (sym z))
+orphaned-other ts (Helping server) m e = refl
+
+pub orphaned-here : (ts : List Thread) (h : Hold) (m : ℕ) → m < length ts → h ≡ Calling m → serviceAt (orphanServer h ts) m ≡ Orphan
+orphaned-here ts h m small e = rw e (service-here ts m Orphan small)
 
 pub aborted-relabels : (ts : List Thread) (n : ℕ) → Relabels ts (aborted n ts)
 unfolding aborted

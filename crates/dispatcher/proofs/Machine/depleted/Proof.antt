@@ -36,7 +36,7 @@ choose-requires c κs =
     choosable _ (turned-exact (start .args .t1) _ _ _ (start .pre .0 .exact) (c .before .to-back .ensures))
 
 returns : tie.Need-returns
-unfolding depletes park
+unfolding depletes park toBack
 returns c =
     let at-to-back = c .before .before in
     let at-index = at-to-back .before .before .before .before .before in

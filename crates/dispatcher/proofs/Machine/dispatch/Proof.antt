@@ -57,6 +57,12 @@ enum-known-e-7 c = search needs
 dispatch-refill-requires : tie.Need-dispatch-refill-requires
 dispatch-refill-requires c κs = c .before .before .before .pre
 
+enum-known-e-8 : tie.Need-enum-known-e-8
+enum-known-e-8 c = search needs
+
+dispatch-remove-requires : tie.Need-dispatch-remove-requires
+dispatch-remove-requires c κs = c .before .before .before .pre
+
 returns : tie.Need-returns
 returns c = rw (c .before .before .e .given .1) (c .dispatch-create .ensures)
 
@@ -84,10 +90,13 @@ returns-8 c = rw (c .before .before .e6 .given .1) (c .dispatch-abort .ensures)
 returns-9 : tie.Need-returns-9
 returns-9 c = rw (c .before .before .e7 .given .1) (c .dispatch-refill .ensures)
 
+returns-10 : tie.Need-returns-10
+returns-10 c = rw (c .before .before .e8 .given .1) (c .dispatch-remove .ensures)
+
 pub dispatch-spec : {M : Type 1} → statement M
 dispatch-spec =
     tie.close
     (tie.spec enum-known-e dispatch-create-requires enum-known-e-2 dispatch-give-requires enum-known-e-3 dispatch-call-requires enum-told
     dispatch-reply-requires enum-told-2 dispatch-block-requires enum-known-e-4 dispatch-wake-requires enum-known-e-5
-    dispatch-charge-requires enum-known-e-6 dispatch-abort-requires enum-known-e-7 dispatch-refill-requires returns returns-2 returns-3
-    returns-4 returns-5 returns-6 returns-7 returns-8 returns-9)
+    dispatch-charge-requires enum-known-e-6 dispatch-abort-requires enum-known-e-7 dispatch-refill-requires enum-known-e-8
+    dispatch-remove-requires returns returns-2 returns-3 returns-4 returns-5 returns-6 returns-7 returns-8 returns-9 returns-10)

@@ -10,7 +10,8 @@ use Rattle.rules.specs.declared.Event.the-variants.{Reply, Block}
 use Rattle.rules.specs.Key.{bytes}
 use Rattle.list_text.specs.declared.Line.{Line}
 use Rattle.list_text.specs.declared.Line.the-variants.{Wrong}
-use Rattle.list_text.specs.Reading.{eventNamed, noSuchEvent, wordsOf, same, last, create, give, call, wake, charge, abort, refill}
+use Rattle.list_text.specs.Reading.{eventNamed, noSuchEvent, wordsOf, same, last}
+use Rattle.list_text.specs.Reading.{create, give, call, wake, charge, abort, refill, remove}
 use Rattle.list_text.proofs.kinds.named.Statement.{statement}
 use Rattle.list_text.proofs.kinds.named.Tie as tie
 
@@ -30,6 +31,7 @@ kinds =
     ∷ (bytes "charge", charge)
     ∷ (bytes "abort", abort)
     ∷ (bytes "refill", refill)
+    ∷ (bytes "remove", remove)
     ∷ []
 
 abbrev among : List Kind → List ℕ → List (List ℕ) → Line
@@ -154,7 +156,17 @@ past-9 c = fails (past-8 (c .before .before .before)) (c .before .same9 .ensures
 
 returns-10 : tie.Need-returns-10
 unfolding bytes
-returns-10 c = sym (past-9 c .is)
+returns-10 c =
+    let tested = c .before .before in
+    holds (past-9 (tested .before .before)) (tested .same10 .ensures) (c .before .if10 .taken) (c .remove .ensures)
+
+abbrev past-10 : tie.Else10 → Past (drop 10 kinds)
+unfolding bytes
+past-10 c = fails (past-9 (c .before .before .before)) (c .before .same10 .ensures) (c .if10 .left)
+
+returns-11 : tie.Need-returns-11
+unfolding bytes
+returns-11 c = sym (past-10 c .is)
 
 pub named-spec : {M : Type 1} → statement M
 named-spec =
@@ -169,4 +181,5 @@ named-spec =
     (λ c. search needs) (λ _ _. tt) (λ _ _. tt) returns-7
     (λ c. search needs) (λ _ _. tt) (λ _ _. tt) returns-8
     (λ c. search needs) (λ _ _. tt) (λ _ _. tt) returns-9
-    returns-10)
+    (λ c. search needs) (λ _ _. tt) (λ _ _. tt) returns-10
+    returns-11)

@@ -57,6 +57,12 @@ enum-known-event-7 c = search needs
 put-three-requires-4 : tie.Need-put-three-requires-4
 put-three-requires-4 c κs = tt
 
+enum-known-event-8 : tie.Need-enum-known-event-8
+enum-known-event-8 c = search needs
+
+put-three-requires-5 : tie.Need-put-three-requires-5
+put-three-requires-5 c κs = tt
+
 same-length : tie.Need-same-length
 same-length c = search needs
 
@@ -129,6 +135,14 @@ returns-9 c =
     let at-event7 = c .before .before .before .before .before in
     rw (at-event7 .event7 .given .1) (c .before .before .put-three4 .ensures)
 
+same-length-10 : tie.Need-same-length-10
+same-length-10 c = search needs
+
+returns-10 : tie.Need-returns-10
+returns-10 c =
+    let at-event8 = c .before .before .before .before .before in
+    rw (at-event8 .event8 .given .1) (c .before .before .put-three5 .ensures)
+
 pub put-record-spec : {M : Type 1} → statement M
 put-record-spec =
     tie.close
@@ -151,6 +165,8 @@ put-record-spec =
     put-three-requires-3
     enum-known-event-7
     put-three-requires-4
+    enum-known-event-8
+    put-three-requires-5
     same-length
     returns
     same-length-2
@@ -168,4 +184,6 @@ put-record-spec =
     same-length-8
     returns-8
     same-length-9
-    returns-9)
+    returns-9
+    same-length-10
+    returns-10)

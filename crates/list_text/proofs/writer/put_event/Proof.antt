@@ -95,6 +95,18 @@ cast-put-named-5 c = search needs
 put-named-requires-5 : tie.Need-put-named-requires-5
 put-named-requires-5 c κs = tt
 
+enum-known-event-8 : tie.Need-enum-known-event-8
+enum-known-event-8 c = search needs
+
+slice-aggregate-put-named-6 : tie.Need-slice-aggregate-put-named-6
+slice-aggregate-put-named-6 c = search needs
+
+cast-put-named-6 : tie.Need-cast-put-named-6
+cast-put-named-6 c = search needs
+
+put-named-requires-6 : tie.Need-put-named-requires-6
+put-named-requires-6 c κs = tt
+
 same-length : tie.Need-same-length
 same-length c = search needs
 
@@ -176,6 +188,15 @@ returns-9 c =
     let at-event7 = c .before .before .before .before .before .before in
     rw (at-event7 .event7 .given .1) (c .before .before .put-named5 .ensures)
 
+same-length-10 : tie.Need-same-length-10
+same-length-10 c = search needs
+
+returns-10 : tie.Need-returns-10
+unfolding eventWords bytes
+returns-10 c =
+    let at-event8 = c .before .before .before .before .before .before in
+    rw (at-event8 .event8 .given .1) (c .before .before .put-named6 .ensures)
+
 pub put-event-spec : {M : Type 1} → statement M
 put-event-spec =
     tie.close
@@ -210,6 +231,10 @@ put-event-spec =
     slice-aggregate-put-named-5
     cast-put-named-5
     put-named-requires-5
+    enum-known-event-8
+    slice-aggregate-put-named-6
+    cast-put-named-6
+    put-named-requires-6
     same-length
     returns
     same-length-2
@@ -227,4 +252,6 @@ put-event-spec =
     same-length-8
     returns-8
     same-length-9
-    returns-9)
+    returns-9
+    same-length-10
+    returns-10)

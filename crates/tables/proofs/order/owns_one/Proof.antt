@@ -1,93 +1,21 @@
--- The first entry whose timeslice has this owner decides; past the end of the table the owner is 0.
-use Prim.Native.Nat.{_-_}
-use mathlib.Core.Path.{refl, sym, _∙_}
-use native.Mathlib.Omega.{arith}
+-- The search finds one, or none.
+use mathlib.Core.Path.{ap}
+use Rattle.rules.specs.Refusals.{isOne}
 use borrow.Author.Needs.{needs}
-use borrow.Author.Tests.{eq-eqb, ne-eqb}
-use lib.Dec.{eqb}
-use Rattle.tables.proofs.Along.{Along, begin, here, next, out}
-use mathlib.Core.List.{map}
-use Rattle.rules.specs.Tests.{someOf}
-use Rattle.rules.specs.State.{ownerAt}
-use Rattle.tables.specs.Timeslices.{sliceOf}
-use Rattle.tables.proofs.Lookups.{owns, owns-none}
 use Rattle.tables.proofs.order.owns_one.Statement.{statement}
 use Rattle.tables.proofs.order.owns_one.Tie as tie
 
-abbrev Inv-loop : tie.InvT-loop
-Inv-loop live n timeslices order last i₀ i = Along (λ l. someOf (λ t. eqb (ownerAt (map sliceOf timeslices) t) n) l) live order last i
+enum-told : tie.Need-enum-told
+enum-told c = search needs
 
-abbrev μ-loop : tie.MeasureT-loop
-μ-loop live n timeslices order last i₀ i = live - i
+enum-told-2 : tie.Need-enum-told-2
+enum-told-2 c = search needs
 
-loop-holds : tie.Need-loop-holds Inv-loop μ-loop
-loop-holds c = begin _ _ _ _ (c .entries .ensures)
+returns : tie.Need-returns
+returns c = rw (c .enum-told .given .1) at (ap isOne (c .before .before .own .ensures))
 
-array-read-t : tie.Need-array-read-t Inv-loop μ-loop
-array-read-t c = omega arith
-
-add-i : tie.Need-add-i Inv-loop μ-loop
-add-i c = omega arith
-
-mul-x : tie.Need-mul-x Inv-loop μ-loop
-mul-x c = search needs
-
-array-copy-out-x : tie.Need-array-copy-out-x Inv-loop μ-loop
-array-copy-out-x c = search needs
-
-returns : tie.Need-returns Inv-loop μ-loop
-unfolding someOf
-returns c =
-    let at-index = c .before .before .before .before in
-    let tested = at-index .before in
-    let turn = tested .before in
-    let start = turn .before .before in
-    let o = owns (start .args .t1) _ _ _ (at-index .index .ensures) refl in
-    rw (eq-eqb _ _ (sym o ∙ c .if2 .taken)) at (here _ _ _ _ _ (start .good .1 .0 .1 .0 .1) (turn .loop .inv) (tested .loop-test .taken))
-
-loop-less : tie.Need-loop-less Inv-loop μ-loop
-loop-less c = omega arith
-
-loop-again : tie.Need-loop-again Inv-loop μ-loop
-unfolding someOf
-loop-again c =
-    let at-index = c .before .before .before .before in
-    let tested = at-index .before in
-    let turn = tested .before in
-    let start = turn .before .before in
-    let o = owns (start .args .t1) _ _ _ (at-index .index .ensures) refl in
-    next _ _ _ _ _ (start .good .1 .0 .1 .0 .1) (turn .loop .inv) (tested .loop-test .taken)
-    (rw (ne-eqb _ _ (λ e. c .if2 .left (o ∙ e))) refl)
-
-returns-2 : tie.Need-returns-2 Inv-loop μ-loop
-unfolding someOf
-returns-2 c =
-    let turn = c .before .before .before .before in
-    let start = turn .before .before in
-    let o = owns-none (start .args .t1) _ _ 0 (start .good .0 .1 .0 .1) (c .before .before .index .ensures) (c .before .if1 .left) refl in
-    rw (eq-eqb _ _ (sym o ∙ c .if3 .taken)) at (here _ _ _ _ _ (start .good .1 .0 .1 .0 .1) (turn .loop .inv)
-    (c .before .before .before .loop-test .taken))
-
-loop-less-2 : tie.Need-loop-less-2 Inv-loop μ-loop
-loop-less-2 c = omega arith
-
-loop-again-2 : tie.Need-loop-again-2 Inv-loop μ-loop
-unfolding someOf
-loop-again-2 c =
-    let turn = c .before .before .before .before in
-    let start = turn .before .before in
-    let o = owns-none (start .args .t1) _ _ 0 (start .good .0 .1 .0 .1) (c .before .before .index .ensures) (c .before .if1 .left) refl in
-    next _ _ _ _ _ (start .good .1 .0 .1 .0 .1) (turn .loop .inv) (c .before .before .before .loop-test .taken)
-    (rw (ne-eqb _ _ (λ e. c .if3 .left (o ∙ e))) refl)
-
-returns-3 : tie.Need-returns-3 Inv-loop μ-loop
-unfolding someOf
-returns-3 c =
-    let start = c .before .before .before in
-    out _ _ _ _ _ (start .good .1 .0 .1 .0 .1) (c .before .loop .inv) (c .loop-test .left)
+returns-2 : tie.Need-returns-2
+returns-2 c = rw (c .enum-told2 .given .1) at (ap isOne (c .before .before .own .ensures))
 
 pub owns-one-spec : {M : Type 1} → statement M
-owns-one-spec =
-    tie.close
-    (tie.spec Inv-loop μ-loop (λ _ _. tt) loop-holds array-read-t (λ _ _. tt) add-i mul-x array-copy-out-x returns loop-less loop-again
-    returns-2 loop-less-2 loop-again-2 returns-3)
+owns-one-spec = tie.close (tie.spec (λ _ _. tt) enum-told enum-told-2 returns returns-2)

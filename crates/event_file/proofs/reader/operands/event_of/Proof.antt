@@ -31,6 +31,9 @@ abort-requires c κs = search needs
 refill-requires : tie.Need-refill-requires
 refill-requires c κs = search needs
 
+remove-requires : tie.Need-remove-requires
+remove-requires c κs = search needs
+
 returns : tie.Need-returns
 returns c = simp (← c .create .ensures, c .before .match .keys1)
 
@@ -59,7 +62,10 @@ returns-9 : tie.Need-returns-9
 returns-9 c = simp (← c .refill .ensures, c .before .match .keys9)
 
 returns-10 : tie.Need-returns-10
-returns-10 c =
+returns-10 c = simp (← c .remove .ensures, c .before .match .keys10)
+
+returns-11 : tie.Need-returns-11
+returns-11 c =
     simp (
       ne-eqb _ _ (c .match .rest .1),
       ne-eqb _ _ (c .match .rest .0 .1),
@@ -70,10 +76,12 @@ returns-10 c =
       ne-eqb _ _ (c .match .rest .0 .0 .0 .0 .0 .0 .1),
       ne-eqb _ _ (c .match .rest .0 .0 .0 .0 .0 .0 .0 .1),
       ne-eqb _ _ (c .match .rest .0 .0 .0 .0 .0 .0 .0 .0 .1),
+      ne-eqb _ _ (c .match .rest .0 .0 .0 .0 .0 .0 .0 .0 .0 .1),
     )
 
 pub event-of-spec : {M : Type 1} → statement M
 event-of-spec =
     tie.close
     (tie.spec create-requires give-requires call-requires reply-requires block-requires wake-requires charge-requires abort-requires
-    refill-requires returns returns-2 returns-3 returns-4 returns-5 returns-6 returns-7 returns-8 returns-9 returns-10)
+    refill-requires remove-requires returns returns-2 returns-3 returns-4 returns-5 returns-6 returns-7 returns-8 returns-9 returns-10
+    returns-11)

@@ -79,6 +79,12 @@ enum-known-event-7 c = search needs
 put3-requires-4 : tie.Need-put3-requires-4
 put3-requires-4 c κs = room (c .before .before .before .before .before) _ (c .before .before .event7 .given .1)
 
+enum-known-event-8 : tie.Need-enum-known-event-8
+enum-known-event-8 c = search needs
+
+put3-requires-5 : tie.Need-put3-requires-5
+put3-requires-5 c κs = room (c .before .before .before .before .before) _ (c .before .before .event8 .given .1)
+
 same-length : tie.Need-same-length
 same-length c = search needs
 
@@ -160,10 +166,20 @@ returns-9 c =
     stored (told .before .before .before) _ _ (told .event7 .given .1)
     (c .before .before .put34 .ensures)
 
+same-length-10 : tie.Need-same-length-10
+same-length-10 c = search needs
+
+returns-10 : tie.Need-returns-10
+returns-10 c =
+    let told = c .before .before .before .before .before in
+    stored (told .before .before .before) _ _ (told .event8 .given .1)
+    (c .before .before .put35 .ensures)
+
 pub put-record-spec : {M : Type 1} → statement M
 put-record-spec =
     tie.close
     (tie.spec enum-known-event put-create-requires enum-known-event-2 put-give-requires enum-known-event-3 put3-requires enum-told
     put2-requires enum-told-2 put2-requires-2 enum-known-event-4 put3-requires-2 enum-known-event-5 put-charge-requires enum-known-event-6
-    put3-requires-3 enum-known-event-7 put3-requires-4 same-length returns same-length-2 returns-2 same-length-3 returns-3 same-length-4
-    returns-4 same-length-5 returns-5 same-length-6 returns-6 same-length-7 returns-7 same-length-8 returns-8 same-length-9 returns-9)
+    put3-requires-3 enum-known-event-7 put3-requires-4 enum-known-event-8 put3-requires-5 same-length returns same-length-2 returns-2
+    same-length-3 returns-3 same-length-4 returns-4 same-length-5 returns-5 same-length-6 returns-6 same-length-7 returns-7 same-length-8
+    returns-8 same-length-9 returns-9 same-length-10 returns-10)
