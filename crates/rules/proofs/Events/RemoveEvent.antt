@@ -70,7 +70,7 @@ module _ {s : State} (x : Mid s) (t : ℕ) (listed : member t (s .order) ≡ tru
       })
       (freed (eq-eqb t t refl)) refl refl
 
--- by what the thread owns: the machine is midway, the plain machine sees the same, the threads stay, and none owns the timeslice now
+-- by what the thread owns: the machine is midway, the plain machine sees the same, and the thread owns nothing now
 record Struck (s : State) (n : ℕ) (o : Option ℕ) : Type 0 where
   mid : Mid (strikeOut o s)
   plain : forget (strikeOut o s) ≡ plainStrike o (forget s)
