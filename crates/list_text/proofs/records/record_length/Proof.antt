@@ -5,87 +5,28 @@ use borrow.Author.Needs.{needs}
 use Rattle.list_text.proofs.records.record_length.Statement.{statement}
 use Rattle.list_text.proofs.records.record_length.Tie as tie
 
-enum-told : tie.Need-enum-told
-enum-told c = search needs
-
-enum-told-2 : tie.Need-enum-told-2
-enum-told-2 c = search needs
-
-enum-told-3 : tie.Need-enum-told-3
-enum-told-3 c = search needs
-
-enum-told-4 : tie.Need-enum-told-4
-enum-told-4 c = search needs
-
-enum-told-5 : tie.Need-enum-told-5
-enum-told-5 c = search needs
-
-enum-told-6 : tie.Need-enum-told-6
-enum-told-6 c = search needs
-
-enum-told-7 : tie.Need-enum-told-7
-enum-told-7 c = search needs
-
-enum-told-8 : tie.Need-enum-told-8
-enum-told-8 c = search needs
-
-enum-told-9 : tie.Need-enum-told-9
-enum-told-9 c = search needs
-
-enum-told-10 : tie.Need-enum-told-10
-enum-told-10 c = search needs
-
-returns : tie.Need-returns
-returns c = (rw (c .enum-told .given .1) refl, omega arith)
-
-returns-2 : tie.Need-returns-2
-returns-2 c = (rw (c .enum-told2 .given .1) refl, omega arith)
-
-returns-3 : tie.Need-returns-3
-returns-3 c = (rw (c .enum-told3 .given .1) refl, omega arith)
-
-returns-4 : tie.Need-returns-4
-returns-4 c = (rw (c .enum-told4 .given .1) refl, omega arith)
-
-returns-5 : tie.Need-returns-5
-returns-5 c = (rw (c .enum-told5 .given .1) refl, omega arith)
-
-returns-6 : tie.Need-returns-6
-returns-6 c = (rw (c .enum-told6 .given .1) refl, omega arith)
-
-returns-7 : tie.Need-returns-7
-returns-7 c = (rw (c .enum-told7 .given .1) refl, omega arith)
-
-returns-8 : tie.Need-returns-8
-returns-8 c = (rw (c .enum-told8 .given .1) refl, omega arith)
-
-returns-9 : tie.Need-returns-9
-returns-9 c = (rw (c .enum-told9 .given .1) refl, omega arith)
-
-returns-10 : tie.Need-returns-10
-returns-10 c = (rw (c .enum-told10 .given .1) refl, omega arith)
-
+-- the arms in their order; then, in the same order, the number of each: the length of the variant told is the event's
 pub record-length-spec : {M : Type 1} → statement M
 record-length-spec =
     tie.close
     (tie.spec
-    enum-told
-    enum-told-2
-    enum-told-3
-    enum-told-4
-    enum-told-5
-    enum-told-6
-    enum-told-7
-    enum-told-8
-    enum-told-9
-    enum-told-10
-    returns
-    returns-2
-    returns-3
-    returns-4
-    returns-5
-    returns-6
-    returns-7
-    returns-8
-    returns-9
-    returns-10)
+    (λ c. search needs)  -- create
+    (λ c. search needs)  -- give
+    (λ c. search needs)  -- call
+    (λ c. search needs)  -- reply
+    (λ c. search needs)  -- block
+    (λ c. search needs)  -- wake
+    (λ c. search needs)  -- charge
+    (λ c. search needs)  -- abort
+    (λ c. search needs)  -- refill
+    (λ c. search needs)  -- remove
+    (λ c. (rw (c .enum-told .given .1) refl, omega arith))  -- create
+    (λ c. (rw (c .enum-told2 .given .1) refl, omega arith))  -- give
+    (λ c. (rw (c .enum-told3 .given .1) refl, omega arith))  -- call
+    (λ c. (rw (c .enum-told4 .given .1) refl, omega arith))  -- reply
+    (λ c. (rw (c .enum-told5 .given .1) refl, omega arith))  -- block
+    (λ c. (rw (c .enum-told6 .given .1) refl, omega arith))  -- wake
+    (λ c. (rw (c .enum-told7 .given .1) refl, omega arith))  -- charge
+    (λ c. (rw (c .enum-told8 .given .1) refl, omega arith))  -- abort
+    (λ c. (rw (c .enum-told9 .given .1) refl, omega arith))  -- refill
+    (λ c. (rw (c .enum-told10 .given .1) refl, omega arith)))  -- remove

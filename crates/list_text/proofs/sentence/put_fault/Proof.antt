@@ -1,232 +1,107 @@
 -- The faults in turn.
+use Prim.Native.Nat.{ℕ}
+use mathlib.Core.Path.{_≡_, refl}
+use mathlib.Core.Bool.{cond}
+use mathlib.Core.List.{List, [], _∷_}
+use lib.ListN.{drop}
+use lib.Dec.{eqb}
 use borrow.Author.Tests.{eq-eqb, ne-eqb}
-use Rattle.rules.specs.Key.{bytes}
-use Rattle.list_text.specs.Answers.{faultWords}
 use borrow.Author.Needs.{needs}
+use Rattle.rules.specs.Key.{bytes}
+use Rattle.text.specs.Put.{Put}
+use Rattle.list_text.specs.Answers.{faultWords}
 use Rattle.list_text.proofs.sentence.put_fault.Statement.{statement}
 use Rattle.list_text.proofs.sentence.put_fault.Tie as tie
 
-slice-aggregate-put-bytes : tie.Need-slice-aggregate-put-bytes
-slice-aggregate-put-bytes c = search needs
+-- a fault: its number and its words
+abbrev Fault : Type 0
+Fault = ℕ × List ℕ
 
-put-bytes-requires : tie.Need-put-bytes-requires
-put-bytes-requires c κs = tt
+-- the chain of `faultWords` as a list: past k failed tests, `drop k faults` is left of it
+abbrev faults : List Fault
+faults =
+    (1, bytes "no such event")
+    ∷ (2, bytes "a number is missing")
+    ∷ (3, bytes "one too many")
+    ∷ (4, bytes "above 255")
+    ∷ (5, bytes "above 65,535")
+    ∷ (6, bytes "neither client nor server")
+    ∷ (7, bytes "too long")
+    ∷ []
 
-same-length : tie.Need-same-length
-same-length c = search needs
+abbrev among : List Fault → ℕ → List ℕ
+among [] number = bytes "nothing is wrong"
+among (fault ∷ rest) number = cond (eqb number (fault .0)) (fault .1) (among rest number)
 
-returns : tie.Need-returns
-unfolding faultWords bytes
-returns c =
-    let at-if1 = c .before .before .before .before .before in
-    simp (eq-eqb _ _ (at-if1 .if1 .taken)) (c .before .before .put-bytes .ensures)
+among-all : (number : ℕ) → faultWords number ≡ among faults number
+unfolding faultWords
+among-all number = refl
 
-slice-aggregate-put-bytes-2 : tie.Need-slice-aggregate-put-bytes-2
-slice-aggregate-put-bytes-2 c = search needs
+-- only the rest can still be the fault; the number is a field, so that no lemma spells the way back to the start
+record Past (rest : List Fault) : Type 0 where
+  number : ℕ
+  is : faultWords number ≡ among rest number
 
-put-bytes-requires-2 : tie.Need-put-bytes-requires-2
-put-bytes-requires-2 c κs = tt
+-- the next test, by what it answers
+module _ {fault : Fault} {rest : List Fault} (p : Past (fault ∷ rest)) where
+  abbrev fails : (p .number ≡ fault .0 → ⊥) → Past rest
+  fails other = record { number = p .number; is = rw (ne-eqb _ _ other) at (p .is) }
 
-same-length-2 : tie.Need-same-length-2
-same-length-2 c = search needs
+  holds :
+      p .number ≡ fault .0 → {before after : List ℕ} {at to : ℕ} →
+      Put before after at to (fault .1) → Put before after at to (faultWords (p .number))
+  holds same put = rw (rw (eq-eqb _ _ same) at (p .is)) put
 
-returns-2 : tie.Need-returns-2
-unfolding faultWords bytes
-returns-2 c =
-    let at-if2 = c .before .before .before .before .before in
-    let at-if1 = at-if2 .before in
-    simp (
-      ne-eqb _ _ (at-if1 .if1 .left),
-      eq-eqb _ _ (at-if2 .if2 .taken),
-    ) (c .before .before .put-bytes2 .ensures)
+abbrev past-0 : tie.After-slice-known → Past faults
+past-0 c = record { number = c .before .args .fault; is = among-all (c .before .args .fault) }
 
-slice-aggregate-put-bytes-3 : tie.Need-slice-aggregate-put-bytes-3
-slice-aggregate-put-bytes-3 c = search needs
+abbrev past-1 : tie.Else1 → Past (drop 1 faults)
+past-1 c = fails (past-0 (c .before)) (c .if1 .left)
 
-put-bytes-requires-3 : tie.Need-put-bytes-requires-3
-put-bytes-requires-3 c κs = tt
+abbrev past-2 : tie.Else2 → Past (drop 2 faults)
+past-2 c = fails (past-1 (c .before)) (c .if2 .left)
 
-same-length-3 : tie.Need-same-length-3
-same-length-3 c = search needs
+abbrev past-3 : tie.Else3 → Past (drop 3 faults)
+past-3 c = fails (past-2 (c .before)) (c .if3 .left)
 
-returns-3 : tie.Need-returns-3
-unfolding faultWords bytes
-returns-3 c =
-    let at-if3 = c .before .before .before .before .before in
-    let at-if2 = at-if3 .before in
-    let at-if1 = at-if2 .before in
-    simp (
-      ne-eqb _ _ (at-if1 .if1 .left),
-      ne-eqb _ _ (at-if2 .if2 .left),
-      eq-eqb _ _ (at-if3 .if3 .taken),
-    ) (c .before .before .put-bytes3 .ensures)
+abbrev past-4 : tie.Else4 → Past (drop 4 faults)
+past-4 c = fails (past-3 (c .before)) (c .if4 .left)
 
-slice-aggregate-put-bytes-4 : tie.Need-slice-aggregate-put-bytes-4
-slice-aggregate-put-bytes-4 c = search needs
+abbrev past-5 : tie.Else5 → Past (drop 5 faults)
+past-5 c = fails (past-4 (c .before)) (c .if5 .left)
 
-put-bytes-requires-4 : tie.Need-put-bytes-requires-4
-put-bytes-requires-4 c κs = tt
+abbrev past-6 : tie.Else6 → Past (drop 6 faults)
+past-6 c = fails (past-5 (c .before)) (c .if6 .left)
 
-same-length-4 : tie.Need-same-length-4
-same-length-4 c = search needs
+abbrev past-7 : tie.Else7 → Past (drop 7 faults)
+past-7 c = fails (past-6 (c .before)) (c .if7 .left)
 
-returns-4 : tie.Need-returns-4
-unfolding faultWords bytes
-returns-4 c =
-    let at-if4 = c .before .before .before .before .before in
-    let at-if3 = at-if4 .before in
-    let at-if2 = at-if3 .before in
-    let at-if1 = at-if2 .before in
-    simp (
-      ne-eqb _ _ (at-if1 .if1 .left),
-      ne-eqb _ _ (at-if2 .if2 .left),
-      ne-eqb _ _ (at-if3 .if3 .left),
-      eq-eqb _ _ (at-if4 .if4 .taken),
-    ) (c .before .before .put-bytes4 .ensures)
-
-slice-aggregate-put-bytes-5 : tie.Need-slice-aggregate-put-bytes-5
-slice-aggregate-put-bytes-5 c = search needs
-
-put-bytes-requires-5 : tie.Need-put-bytes-requires-5
-put-bytes-requires-5 c κs = tt
-
-same-length-5 : tie.Need-same-length-5
-same-length-5 c = search needs
-
-returns-5 : tie.Need-returns-5
-unfolding faultWords bytes
-returns-5 c =
-    let at-if5 = c .before .before .before .before .before in
-    let at-if4 = at-if5 .before in
-    let at-if3 = at-if4 .before in
-    let at-if2 = at-if3 .before in
-    let at-if1 = at-if2 .before in
-    simp (
-      ne-eqb _ _ (at-if1 .if1 .left),
-      ne-eqb _ _ (at-if2 .if2 .left),
-      ne-eqb _ _ (at-if3 .if3 .left),
-      ne-eqb _ _ (at-if4 .if4 .left),
-      eq-eqb _ _ (at-if5 .if5 .taken),
-    ) (c .before .before .put-bytes5 .ensures)
-
-slice-aggregate-put-bytes-6 : tie.Need-slice-aggregate-put-bytes-6
-slice-aggregate-put-bytes-6 c = search needs
-
-put-bytes-requires-6 : tie.Need-put-bytes-requires-6
-put-bytes-requires-6 c κs = tt
-
-same-length-6 : tie.Need-same-length-6
-same-length-6 c = search needs
-
-returns-6 : tie.Need-returns-6
-unfolding faultWords bytes
-returns-6 c =
-    let at-if6 = c .before .before .before .before .before in
-    let at-if5 = at-if6 .before in
-    let at-if4 = at-if5 .before in
-    let at-if3 = at-if4 .before in
-    let at-if2 = at-if3 .before in
-    let at-if1 = at-if2 .before in
-    simp (
-      ne-eqb _ _ (at-if1 .if1 .left),
-      ne-eqb _ _ (at-if2 .if2 .left),
-      ne-eqb _ _ (at-if3 .if3 .left),
-      ne-eqb _ _ (at-if4 .if4 .left),
-      ne-eqb _ _ (at-if5 .if5 .left),
-      eq-eqb _ _ (at-if6 .if6 .taken),
-    ) (c .before .before .put-bytes6 .ensures)
-
-slice-aggregate-put-bytes-7 : tie.Need-slice-aggregate-put-bytes-7
-slice-aggregate-put-bytes-7 c = search needs
-
-put-bytes-requires-7 : tie.Need-put-bytes-requires-7
-put-bytes-requires-7 c κs = tt
-
-same-length-7 : tie.Need-same-length-7
-same-length-7 c = search needs
-
-returns-7 : tie.Need-returns-7
-unfolding faultWords bytes
-returns-7 c =
-    let at-if7 = c .before .before .before .before .before in
-    let at-if6 = at-if7 .before in
-    let at-if5 = at-if6 .before in
-    let at-if4 = at-if5 .before in
-    let at-if3 = at-if4 .before in
-    let at-if2 = at-if3 .before in
-    let at-if1 = at-if2 .before in
-    simp (
-      ne-eqb _ _ (at-if1 .if1 .left),
-      ne-eqb _ _ (at-if2 .if2 .left),
-      ne-eqb _ _ (at-if3 .if3 .left),
-      ne-eqb _ _ (at-if4 .if4 .left),
-      ne-eqb _ _ (at-if5 .if5 .left),
-      ne-eqb _ _ (at-if6 .if6 .left),
-      eq-eqb _ _ (at-if7 .if7 .taken),
-    ) (c .before .before .put-bytes7 .ensures)
-
-slice-aggregate-put-bytes-8 : tie.Need-slice-aggregate-put-bytes-8
-slice-aggregate-put-bytes-8 c = search needs
-
-put-bytes-requires-8 : tie.Need-put-bytes-requires-8
-put-bytes-requires-8 c κs = tt
-
-same-length-8 : tie.Need-same-length-8
-same-length-8 c = search needs
-
-returns-8 : tie.Need-returns-8
-unfolding faultWords bytes
-returns-8 c =
-    let at-if7 = c .before .before .before .before .before in
-    let at-if6 = at-if7 .before in
-    let at-if5 = at-if6 .before in
-    let at-if4 = at-if5 .before in
-    let at-if3 = at-if4 .before in
-    let at-if2 = at-if3 .before in
-    let at-if1 = at-if2 .before in
-    simp (
-      ne-eqb _ _ (at-if1 .if1 .left),
-      ne-eqb _ _ (at-if2 .if2 .left),
-      ne-eqb _ _ (at-if3 .if3 .left),
-      ne-eqb _ _ (at-if4 .if4 .left),
-      ne-eqb _ _ (at-if5 .if5 .left),
-      ne-eqb _ _ (at-if6 .if6 .left),
-      ne-eqb _ _ (at-if7 .if7 .left),
-    ) (c .before .before .put-bytes8 .ensures)
-
+-- the faults in turn: the call, and its words by the test on the way
 pub put-fault-spec : {M : Type 1} → statement M
+unfolding bytes
 put-fault-spec =
     tie.close
     (tie.spec
-    slice-aggregate-put-bytes
-    put-bytes-requires
-    same-length
-    returns
-    slice-aggregate-put-bytes-2
-    put-bytes-requires-2
-    same-length-2
-    returns-2
-    slice-aggregate-put-bytes-3
-    put-bytes-requires-3
-    same-length-3
-    returns-3
-    slice-aggregate-put-bytes-4
-    put-bytes-requires-4
-    same-length-4
-    returns-4
-    slice-aggregate-put-bytes-5
-    put-bytes-requires-5
-    same-length-5
-    returns-5
-    slice-aggregate-put-bytes-6
-    put-bytes-requires-6
-    same-length-6
-    returns-6
-    slice-aggregate-put-bytes-7
-    put-bytes-requires-7
-    same-length-7
-    returns-7
-    slice-aggregate-put-bytes-8
-    put-bytes-requires-8
-    same-length-8
-    returns-8)
+    (λ c. search needs) (λ _ _. tt) (λ c. search needs)  -- no such event
+    (λ c. let put = c .before .before in let test = put .before .before .before in
+    holds (past-0 (test .before)) (test .if1 .taken) (put .put-bytes .ensures))
+    (λ c. search needs) (λ _ _. tt) (λ c. search needs)  -- a number is missing
+    (λ c. let put = c .before .before in let test = put .before .before .before in
+    holds (past-1 (test .before)) (test .if2 .taken) (put .put-bytes2 .ensures))
+    (λ c. search needs) (λ _ _. tt) (λ c. search needs)  -- one too many
+    (λ c. let put = c .before .before in let test = put .before .before .before in
+    holds (past-2 (test .before)) (test .if3 .taken) (put .put-bytes3 .ensures))
+    (λ c. search needs) (λ _ _. tt) (λ c. search needs)  -- above 255
+    (λ c. let put = c .before .before in let test = put .before .before .before in
+    holds (past-3 (test .before)) (test .if4 .taken) (put .put-bytes4 .ensures))
+    (λ c. search needs) (λ _ _. tt) (λ c. search needs)  -- above 65,535
+    (λ c. let put = c .before .before in let test = put .before .before .before in
+    holds (past-4 (test .before)) (test .if5 .taken) (put .put-bytes5 .ensures))
+    (λ c. search needs) (λ _ _. tt) (λ c. search needs)  -- neither client nor server
+    (λ c. let put = c .before .before in let test = put .before .before .before in
+    holds (past-5 (test .before)) (test .if6 .taken) (put .put-bytes6 .ensures))
+    (λ c. search needs) (λ _ _. tt) (λ c. search needs)  -- too long
+    (λ c. let put = c .before .before in let test = put .before .before .before in
+    holds (past-6 (test .before)) (test .if7 .taken) (put .put-bytes7 .ensures))
+    (λ c. search needs) (λ _ _. tt) (λ c. search needs)  -- nothing is wrong
+    (λ c. let put = c .before .before in rw (past-7 (put .before .before .before) .is) (put .put-bytes8 .ensures)))
