@@ -1,6 +1,6 @@
 -- Writing: what an append answers, by the test of document 01 that decides it.
 use Prim.Native.Nat.{ℕ, zero, suc, _+_, _-_, _<_, _≤_}
-use mathlib.Core.Path.{_≡_, refl, ap, sym, subst, _∙_}
+use mathlib.Core.Path.{_≡_, refl, ap, sym, _∙_}
 use mathlib.Core.List.{List, [], _∷_}
 use lib.ListN.{length, take}
 use lib.Seq.{sets}
@@ -8,15 +8,6 @@ use borrow.Author.Tests.{le-ltb, lt-ltb}
 use Rattle.rules.specs.declared.Event.{Event}
 use Rattle.rules.specs.EventFile.{recordOf, recordsOf, fourBytes, fileOf, fileRefusal}
 use Rattle.rules.specs.EventFile.{started, roomRefusal, appendRefusalAfter, appendRefusal, appendedAs, appended}
-
--- the same event has the same record
-pub same-room :
-    (at n : ℕ) (e e′ : Event) → e ≡ e′ → at + length (recordOf e) ≤ n → at + length (recordOf e′) ≤ n
-same-room at n e e′ same h = subst (λ (x : Event). at + length (recordOf x) ≤ n) same h
-
-pub same-stores :
-    (l out : List ℕ) (at : ℕ) (e e′ : Event) → e ≡ e′ → out ≡ sets l at (recordOf e′) → out ≡ sets l at (recordOf e)
-same-stores l out at e e′ same h = h ∙ ap (λ (x : Event). sets l at (recordOf x)) (sym same)
 
 -- starting a file, in a buffer that is too small and in another
 pub started-refused :
