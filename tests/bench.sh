@@ -5,7 +5,7 @@
 # that take turns. Times are of whole processes, start, reading and printing included; nothing is
 # subtracted. Not part of any timed test. Stops after 20 seconds for each of RUNS.
 # With BEFORE, an earlier key program, the time is against that one, on files in which no timeslice is depleted: BEFORE may be
-# from before request [2]. No file here has a remove: all are as they were before request [3].
+# from before request [2]. No file here has a remove or a rank: all are as they were before requests [3] and [4].
 set -euo pipefail
 export LC_ALL=C
 [ $# -ge 1 ] || { echo "bench.sh KEY_PROGRAM [RUNS [BEFORE]]" >&2; exit 2; }

@@ -4,8 +4,8 @@
 # Makes event files of every kind and compares, byte for byte, the key that KEY_PROGRAM prints with that
 # of oracle/key.rs; and oracle/plain.rs with oracle/key.rs without its last column. COUNT is the number of
 # lively files; the other kinds go with it. The same seed gives the same files. Each run of KEY_PROGRAM has 10 seconds.
-# Every kind of event must have every answer that it can have, and refill and remove every effect that oracle/count.rs names; with a COUNT
-# below the default that is only said.
+# Every kind of event must have every answer that it can have, and refill, remove and rank every effect that oracle/count.rs names;
+# with a COUNT below the default that is only said.
 #
 # Exit status: 0 all equal, 1 a difference or something that never occurs, 2 wrong use or no time left (COMPARE_SECONDS, default 60).
 set -euo pipefail

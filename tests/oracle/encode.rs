@@ -13,6 +13,7 @@
 //! abort THREAD
 //! refill TIMESLICE
 //! remove THREAD
+//! rank TIMESLICE PRIORITY
 //! ```
 
 use std::io::{Read, Write};
@@ -39,6 +40,7 @@ fn event(words: &[&str]) -> Option<Vec<u8>> {
         ["abort", thread] => vec![8, byte(thread)?],
         ["refill", timeslice] => vec![9, byte(timeslice)?],
         ["remove", thread] => vec![10, byte(thread)?],
+        ["rank", timeslice, priority] => vec![11, byte(timeslice)?, byte(priority)?],
         _ => return None,
     })
 }

@@ -1,4 +1,4 @@
-//! The key program of document 01 with requests [2] and [3]: the dispatcher with places, changed in place.
+//! The key program of document 01 with requests [2], [3] and [4]: the dispatcher with places, changed in place.
 //!
 //! `key` reads an event file from standard input and prints its key.
 //! `key -o FOLDER FILE...` writes the key of each file to FOLDER, under the file's own name.
@@ -82,6 +82,7 @@ pub struct Walk {
     count: u32,
 }
 
+#[derive(Clone)]
 pub struct Machine {
     pub threads: [Thread; 128],
     /// L, the number of live threads.
@@ -92,7 +93,7 @@ pub struct Machine {
     priority: [i16; 128],
     slice: [Slice; 128],
     /// How many timeslices are in each set, so that an empty set costs no pass.
-    size: [u8; PLACES],
+    pub size: [u8; PLACES],
     pub slice_used: [bool; 128],
     pub owns: [bool; 128],
     /// Where the current timeslice stands in turn order; meaningless while nothing runs.
@@ -139,6 +140,16 @@ impl Machine {
     /// The number and the place of the thread's own timeslice.
     pub fn owned(&self, thread: u8) -> Option<(u8, Place)> {
         self.own(thread).map(|at| (self.slice[at].number, self.place[at]))
+    }
+
+    /// Where the timeslice stands in turn order, if it is live.
+    fn find(&self, number: u8) -> Option<usize> {
+        self.slice[..self.slices].iter().position(|s| s.number == number)
+    }
+
+    /// The priority and the place of the timeslice, if it is live.
+    pub fn rated(&self, number: u8) -> Option<(u8, Place)> {
+        self.find(number).map(|at| (self.priority[at] as u8, self.place[at]))
     }
 
     /// "The walk": at most L links, and L links are a loop.
@@ -205,6 +216,16 @@ impl Machine {
         self.size[QUEUE as usize] -= 1;
         self.size[place as usize] += 1;
         self.release(BEHIND + self.slice[at].number as Place);
+    }
+
+    /// Goes to the back of the turn order; hands back where that is. `self.at` may be wrong then: a choice follows.
+    #[inline]
+    fn back(&mut self, at: usize) -> usize {
+        let n = self.slices;
+        self.place[at..n].rotate_left(1);
+        self.priority[at..n].rotate_left(1);
+        self.slice[at..n].rotate_left(1);
+        n - 1
     }
 
     /// "Choice"; hands back the links followed.
@@ -383,11 +404,8 @@ impl Machine {
         if s.left > 0 {
             return accept(0);
         }
-        let n = self.slices;
-        self.place[at..n].rotate_left(1);
-        self.priority[at..n].rotate_left(1);
-        self.slice[at..n].rotate_left(1);
-        self.leave(n - 1, SPENT);
+        let last = self.back(at);
+        self.leave(last, SPENT);
         accept(self.choose())
     }
 
@@ -423,7 +441,7 @@ impl Machine {
         if !self.slice_used[number as usize] {
             return refuse(4);
         }
-        let at = self.slice[..self.slices].iter().position(|s| s.number == number).unwrap();
+        let at = self.find(number).unwrap();
         if self.place[at] != SPENT {
             return refuse(18);
         }
@@ -486,6 +504,30 @@ impl Machine {
         self.release(BEHIND + number as Place);
     }
 
+    pub fn rank(&mut self, number: u8, priority: u8) -> Answer {
+        if number > 127 {
+            return refuse(2);
+        }
+        if !self.slice_used[number as usize] {
+            return refuse(4);
+        }
+        let at = self.find(number).unwrap();
+        match self.place[at] {
+            QUEUE => {
+                self.release(BEHIND + number as Place);
+            }
+            behind @ BEHIND.. => {
+                self.place[at] = QUEUE;
+                self.size[behind as usize] -= 1;
+                self.size[QUEUE as usize] += 1;
+            }
+            _ => {}
+        }
+        self.priority[at] = priority as i16;
+        self.back(at);
+        accept(self.choose())
+    }
+
     /// The first of the records, if there is one: its answer, and the records after it. The file has
     /// been checked: every record is whole and its length fits its kind.
     #[inline]
@@ -503,13 +545,14 @@ impl Machine {
             [_, 8, thread, tail @ ..] => (self.abort(*thread), tail),
             [_, 9, number, tail @ ..] => (self.refill(*number), tail),
             [_, 10, thread, tail @ ..] => (self.remove(*thread), tail),
+            [_, 11, number, priority, tail @ ..] => (self.rank(*number, *priority), tail),
             _ => return None,
         })
     }
 }
 
 /// The length byte of a record, by kind.
-const LENGTH: [u8; 11] = [0, 3, 6, 2, 1, 1, 2, 3, 2, 2, 2];
+const LENGTH: [u8; 12] = [0, 3, 6, 2, 1, 1, 2, 3, 2, 2, 2, 3];
 
 /// Checks a file whole and hands back its records; 14, 15 or 16 where it is refused.
 pub fn check(file: &[u8]) -> Result<&[u8], u8> {
@@ -527,7 +570,7 @@ pub fn check(file: &[u8]) -> Result<&[u8], u8> {
     let mut rest = records;
     while let [length, tail @ ..] = rest {
         match tail {
-            [kind @ 1..=10, ..] if LENGTH[*kind as usize] == *length && *length as usize <= tail.len() => {
+            [kind @ 1..=11, ..] if LENGTH[*kind as usize] == *length && *length as usize <= tail.len() => {
                 if *kind == 1 && tail[2] > 1 {
                     return Err(16);
                 }

@@ -2,7 +2,7 @@
 //!
 //! Kinds:
 //! - `lively`: random lists that keep threads running, calling, helping, blocking, waking,
-//!   aborting, charging, refilling and removing; 3 to 128 threads, many equal priorities, refusals 2 to 13 and 18;
+//!   aborting, charging, refilling, removing and ranking; 3 to 128 threads, many equal priorities, refusals 2 to 13 and 18;
 //! - `chain`: long chains of donation and helping links, up to 127, and loops;
 //! - `damaged`: files with a fault for the reader (14, 15, 16), and the borders beside them;
 //! - `full`: 128 threads, each with a timeslice, a file of 65,536 bytes;
@@ -12,14 +12,14 @@
 //! - `full-undepleted`, `small-undepleted`, `chainN-undepleted`: the same, but no charge reaches 0 and
 //!   nothing is refilled, for a program from before request [2].
 //!
-//! From `full` on no kind has a remove: those files are also for a program from before request [3].
+//! From `full` on no kind has a remove or a rank: those files are also for a program from before requests [3] and [4].
 //!
 //! The machine of `key.rs` runs along, so that the next event can be chosen by what would happen.
 
 #[path = "key.rs"]
 mod key;
 
-use key::{Hold, Machine, BEHIND, CLIENT, LIMIT, NONE, ON, QUEUE, SERVER, SPENT, STALLED};
+use key::{Hold, Machine, Place, BEHIND, CLIENT, LIMIT, NONE, ON, QUEUE, SERVER, SPENT, STALLED};
 
 /// splitmix64
 struct Random(u64);
@@ -64,6 +64,7 @@ enum Event {
     Abort(u8),
     Refill(u8),
     Remove(u8),
+    Rank(u8, u8),
 }
 use Event::*;
 
@@ -79,6 +80,7 @@ fn record(e: Event) -> Vec<u8> {
         Abort(t) => vec![2, 8, t],
         Refill(s) => vec![2, 9, s],
         Remove(t) => vec![2, 10, t],
+        Rank(s, p) => vec![3, 11, s, p],
     }
 }
 
@@ -98,8 +100,8 @@ struct Profile {
     /// Calls among a hundred that go to a server with a higher number than the caller's. Such calls
     /// alone make no loop.
     upward: usize,
-    /// Weights of call, reply, block, wake, charge, abort, refill, remove.
-    weights: [usize; 8],
+    /// Weights of call, reply, block, wake, charge, abort, refill, remove, rank.
+    weights: [usize; 9],
 }
 
 struct List {
@@ -127,6 +129,7 @@ impl List {
             Abort(t) => m.abort(t),
             Refill(s) => m.refill(s),
             Remove(t) => m.remove(t),
+            Rank(s, p) => m.rank(s, p),
         };
         self.bytes.extend(record(e));
     }
@@ -209,19 +212,65 @@ impl List {
         self.random.pick(&from).map(Remove)
     }
 
-    /// A timeslice that is not Spent: first the place is drawn, so that none of the four is rare.
-    fn unspent(&mut self) -> Option<u8> {
-        let place = self.random.pick(&[QUEUE, STALLED, ON, BEHIND])?;
+    /// A timeslice in one of the places: first the place is drawn, so that none of them is rare.
+    fn placed(&mut self, places: &[Place]) -> Option<u8> {
+        let place = self.random.pick(places)?;
         // ON and BEHIND begin a place for each of 128 numbers.
         let many = if place < ON { 1 } else { 128 };
         let there = self.machine.placed(place..place + many);
         self.random.pick(&there)
     }
 
+    /// A timeslice with followers.
+    fn leader(&mut self) -> Option<u8> {
+        let leaders: Vec<u8> = (0..128u8).filter(|n| self.machine.size[BEHIND as usize + *n as usize] > 0).collect();
+        self.random.pick(&leaders)
+    }
+
+    /// The timeslices in Queue or Behind another for which a choice would make a retry; or those that it would put aside.
+    fn unseen(&self, retry: bool) -> Vec<u8> {
+        let m = &self.machine;
+        let mut unseen = Vec::new();
+        for thread in self.threads(|_| true) {
+            let Some((number, QUEUE | BEHIND..)) = m.owned(thread) else { continue };
+            let w = m.walk(thread as usize);
+            let end = if w.links < m.live { Some(m.threads[w.end].hold) } else { None };
+            let retries = w.links > 0 && end == Some(Hold::Idle);
+            if end != Some(Hold::Ready) && retries == retry {
+                unseen.push(number);
+            }
+        }
+        unseen
+    }
+
+    /// A timeslice to rank: first how it stands is drawn, so that none of these is rare. The priority is one that others have too, so
+    /// that it goes to the back among equals; or its own again; or the current one's, or the next above that; or any.
+    fn rank(&mut self) -> Option<Event> {
+        let current = self.machine.current;
+        let number = match self.random.below(10) {
+            0 if current != NONE => current,
+            1 => self.leader()?,
+            2..=3 => self.placed(&[BEHIND])?,
+            4..=5 => self.random.pick(&self.unseen(true))?,
+            6 => self.random.pick(&self.unseen(false))?,
+            _ => self.placed(&[QUEUE, ON, STALLED, SPENT])?,
+        };
+        let priority = |number| self.machine.rated(number).map_or(0, |(priority, _)| priority);
+        let (own, highest) = (priority(number), priority(current));
+        let priority = match self.random.below(10) {
+            0..=3 => self.random.pick(&self.profile.priorities)?,
+            4..=5 => own,
+            6 => highest,
+            7..=8 => highest.saturating_add(1),
+            _ => self.random.below(256) as u8,
+        };
+        Some(Rank(number, priority))
+    }
+
     /// An event that is accepted now, if the dice find one.
     fn sensible(&mut self) -> Option<Event> {
         let m = &self.machine;
-        let removes = self.profile.weights[7];
+        let (removes, ranks) = (self.profile.weights[7], self.profile.weights[8]);
         // Where threads are removed others come, with the freed numbers: the machine stays full.
         let often = 4 + 2 * removes;
         if m.live < self.profile.threads as u32 && self.random.percent(often) {
@@ -244,6 +293,9 @@ impl List {
             if removes > 0 && self.random.percent(3 * removes) {
                 return self.remove();
             }
+            if ranks > 0 && self.random.percent(ranks) {
+                return self.rank();
+            }
             return match self.random.below(10) {
                 0..=5 if !blocked.is_empty() => self.random.pick(&blocked).map(Wake),
                 0..=8 if !linked.is_empty() => self.random.pick(&linked).map(Abort),
@@ -256,6 +308,10 @@ impl List {
         weights[3] += weights[3] * blocked.len() * 6 / self.machine.live as usize;
         // Many Spent timeslices: more refills.
         weights[6] += weights[6] * spent * 6 / slices;
+        // A timeslice waits with a retry: more ranks, which may let it come first.
+        if ranks > 0 && !self.unseen(true).is_empty() {
+            weights[8] *= 4;
+        }
         let mut dice = self.random.below(weights.iter().sum());
         let mut what = 0;
         while dice >= weights[what] {
@@ -278,6 +334,7 @@ impl List {
             5 => self.random.pick(&linked).map(Abort),
             6 => self.refill(),
             7 => self.remove(),
+            8 => self.rank(),
             _ => None,
         }
     }
@@ -292,8 +349,8 @@ impl List {
         let used: Vec<u8> = (0..128u8).filter(|n| self.machine.slice_used[*n as usize]).collect();
         let owners: Vec<u8> = (0..128u8).filter(|n| self.machine.owns[*n as usize]).collect();
         let priority = self.random.pick(&self.profile.priorities)?;
-        Some(match self.random.below(19) {
-            2 => match self.random.below(8) {
+        Some(match self.random.below(20) {
+            2 => match self.random.below(9) {
                 0 => Create(high, self.role()),
                 1 => Give(high, some, priority, 5),
                 2 => Give(self.free_slice().unwrap_or(any), high, priority, self.random.below(2) as u16),
@@ -301,17 +358,19 @@ impl List {
                 4 => Wake(high),
                 5 => Abort(high),
                 6 => Refill(high),
-                _ => Remove(high),
+                7 => Remove(high),
+                _ => Rank(high, priority),
             },
             3 if self.random.percent(50) => Create(some, self.role()),
             3 => Give(self.random.pick(&used)?, self.random.pick(&[some, free, high])?, priority, self.random.below(2) as u16),
-            4 => match self.random.below(6) {
+            4 => match self.random.below(7) {
                 0 => Give(self.free_slice()?, free, priority, self.random.below(2) as u16),
                 1 => Call(free),
                 2 => Wake(free),
                 3 => Abort(free),
                 4 => Refill(self.free_slice()?),
-                _ => Remove(free),
+                5 => Remove(free),
+                _ => Rank(self.free_slice()?, priority),
             },
             5 if runs == NONE => match self.random.below(4) {
                 0 => Call(self.random.pick(&[some, free, high])?),
@@ -331,7 +390,8 @@ impl List {
             15 => Abort(any),
             16 => Refill(any),
             17 => Remove(any),
-            18 => Refill(self.unspent()?),
+            18 => Refill(self.placed(&[QUEUE, STALLED, ON, BEHIND])?),
+            19 => Rank(any, priority),
             _ => Call(any),
         })
     }
@@ -397,6 +457,7 @@ fn lively(seed: u64) -> List {
             r.range(1, 15),
             r.range(2, 20),
             r.pick(&[0, 1, 3, 6]).unwrap(),
+            r.pick(&[0, 2, 6, 12]).unwrap(),
         ],
     };
     let steps = match r.below(4) {
@@ -442,7 +503,7 @@ fn chain(seed: u64) -> List {
         depletes: true,
         wrong: 3,
         upward: 90,
-        weights: [60, 8, 3, 6, 6, 5, 5, 2],
+        weights: [60, 8, 3, 6, 6, 5, 5, 2, 3],
     };
     let mut list = List::new(seed, profile);
     for t in 0..clients {
@@ -478,7 +539,7 @@ fn chain(seed: u64) -> List {
         for _ in 0..r.range(1, 12) {
             let linked = list.threads(|t| t.hold >= Hold::Calling);
             let blocked = list.threads(|t| t.hold == Hold::Blocked);
-            match r.below(11) {
+            match r.below(12) {
                 0 => list.add(Block),
                 1..=2 => {
                     if let Some(t) = r.pick(&blocked) {
@@ -512,6 +573,11 @@ fn chain(seed: u64) -> List {
                 }
                 9 => {
                     if let Some(e) = list.remove() {
+                        list.add(e)
+                    }
+                }
+                10 => {
+                    if let Some(e) = list.rank() {
                         list.add(e)
                     }
                 }
@@ -567,7 +633,7 @@ fn damaged(seed: u64, index: usize) -> Vec<u8> {
         12 => f[r.below(4)] ^= 1 << r.below(8),
         13 => f[..4].copy_from_slice(&[255; 4]),
         14 => f[4] = r.pick(&[0, 2, 3, 128, 255]).unwrap(),
-        15 => f[start + 1] = r.pick(&[0, 11, 12, 129, 255]).unwrap(),
+        15 => f[start + 1] = r.pick(&[0, 12, 13, 129, 255]).unwrap(),
         16 => f[start] = f[start].wrapping_add(r.pick(&[1, 255, 128]).unwrap()),
         17 => f[start] = 0,
         18 => {
@@ -584,9 +650,16 @@ fn damaged(seed: u64, index: usize) -> Vec<u8> {
                 f.push(0)
             }
         }
-        // The kind of refill or remove with the operands of another: good where that has one byte.
-        20 => f[start + 1] = 9,
-        21 => f[start + 1] = 10,
+        // The kind of refill, remove or rank, by turns, with the operands of another: good where that has as many bytes.
+        20 => f[start + 1] = [9, 10, 11][index / 30 % 3],
+        21 => {
+            // One of these put before a record, by turns with more or fewer operands than it has; the last is good.
+            let (kind, operands) = [(11, 1), (11, 3), (10, 2), (9, 2), (11, 0), (11, 4), (11, 2)][index / 30 % 7];
+            let mut whole = vec![operands + 1, kind];
+            whole.extend((0..operands).map(|_| r.below(128) as u8));
+            f.splice(start..start, whole);
+            set_length(&mut f)
+        }
         22 => {
             for _ in 0..r.range(1, 4) {
                 let i = r.below(f.len());
@@ -594,10 +667,10 @@ fn damaged(seed: u64, index: usize) -> Vec<u8> {
             }
         }
         23 => {
-            // A good record begins, but the file ends within it.
-            let e = r.pick(&[Create(1, 1), Give(1, 1, 1, 1), Call(1), Wake(1), Charge(1), Abort(1), Refill(1), Remove(1)]).unwrap();
-            let whole = record(e);
-            f.extend(&whole[..r.range(1, whole.len() - 1)]);
+            // A good record begins, its kind by turns, but the file ends within its operands.
+            let kinds = [Rank(1, 1), Give(1, 1, 1, 1), Create(1, 1), Charge(1), Remove(1), Refill(1), Call(1), Wake(1), Abort(1)];
+            let whole = record(kinds[index / 30 % 9]);
+            f.extend(&whole[..r.range(2, whole.len() - 1)]);
             set_length(&mut f)
         }
         24 | 25 | 26 => {
@@ -612,7 +685,7 @@ fn damaged(seed: u64, index: usize) -> Vec<u8> {
         27 => {
             // An operand above 127 is no fault of the file.
             for s in &starts {
-                if f[*s] == 2 && r.percent(20) {
+                if (f[*s] == 2 || f[*s + 1] == 11) && r.percent(20) {
                     f[*s + 2] |= 128;
                 }
             }
@@ -633,7 +706,7 @@ fn damaged(seed: u64, index: usize) -> Vec<u8> {
             let n = r.range(0, 40);
             f.truncate(5);
             for _ in 0..n {
-                f.push(r.below(11) as u8);
+                f.push(r.below(12) as u8);
             }
             set_length(&mut f)
         }
@@ -653,7 +726,7 @@ fn full(seed: u64, depletes: bool) -> List {
         depletes,
         wrong: 0,
         upward: 100,
-        weights: [30, 22, 4, 8, 12, 3, 6, 0],
+        weights: [30, 22, 4, 8, 12, 3, 6, 0, 0],
     };
     let mut list = List::new(seed, profile);
     for t in 0..128u8 {
@@ -677,7 +750,7 @@ fn small(seed: u64, depletes: bool) -> List {
         depletes,
         wrong: 0,
         upward: 99,
-        weights: [30, 22, 4, 8, 12, 3, 6, 0],
+        weights: [30, 22, 4, 8, 12, 3, 6, 0, 0],
     };
     let mut list = List::new(seed, profile);
     for t in 0..6u8 {
@@ -704,7 +777,7 @@ fn chain_of(seed: u64, links: u8, depletes: bool) -> List {
         depletes,
         wrong: 0,
         upward: 0,
-        weights: [0; 8],
+        weights: [0; 9],
     };
     let mut list = List::new(seed, profile);
     list.add(Create(0, CLIENT));

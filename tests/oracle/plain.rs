@@ -1,4 +1,4 @@
-//! The plain machine of document 01 with requests [2] and [3]. It has no places, no release and no choice: after every
+//! The plain machine of document 01 with requests [2], [3] and [4]. It has no places, no release and no choice: after every
 //! accepted event it judges all live timeslices afresh. It prints the key without its last column
 //! (links followed), which the plain machine does not define.
 //!
@@ -22,6 +22,7 @@ enum Event {
     Abort { thread: u8 },
     Refill { timeslice: u8 },
     Remove { thread: u8 },
+    Rank { timeslice: u8, priority: u8 },
 }
 
 /// "Reading a file". The rules for 16 are the same whichever of them is broken first.
@@ -68,6 +69,7 @@ fn read(file: &[u8]) -> Result<Vec<Event>, u8> {
             (8, 2) => Event::Abort { thread: record[1] },
             (9, 2) => Event::Refill { timeslice: record[1] },
             (10, 2) => Event::Remove { thread: record[1] },
+            (11, 3) => Event::Rank { timeslice: record[1], priority: record[2] },
             _ => return Err(16),
         });
         at += 1 + length;
@@ -295,6 +297,15 @@ impl Plain {
                     0
                 }
             }
+            Event::Rank { timeslice, .. } => {
+                if timeslice > 127 {
+                    2
+                } else if !self.timeslices.contains_key(&timeslice) {
+                    4
+                } else {
+                    0
+                }
+            }
         }
     }
 
@@ -368,6 +379,11 @@ impl Plain {
                 if let Hold::Calling(server) = removed.hold {
                     self.threads.get_mut(&server).unwrap().service = Service::Orphan;
                 }
+            }
+            Event::Rank { timeslice, priority } => {
+                self.timeslices.get_mut(&timeslice).unwrap().priority = priority;
+                self.turn_order.retain(|s| *s != timeslice);
+                self.turn_order.push(timeslice);
             }
         }
     }

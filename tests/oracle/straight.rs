@@ -1,5 +1,5 @@
-//! A second opponent for `bench.sh`: document 01's machine, with requests [2] and [3], in its own layout, tables of thread and timeslice
-//! records by number and the turn order beside them, changed in place. The turn order is scanned once for a
+//! A second opponent for `bench.sh`: document 01's machine, with requests [2], [3] and [4], in its own layout, tables of thread and
+//! timeslice records by number and the turn order beside them, changed in place. The turn order is scanned once for a
 //! choice and once for each release; nothing is kept to save a scan. `key.rs` is tuned further.
 
 use std::io::{Read, Write};
@@ -147,6 +147,12 @@ impl Machine {
     fn park(&mut self, t: u8, place: Place) {
         self.timeslices[t as usize].place = place;
         self.release(Place::Behind(t));
+    }
+
+    /// Goes to the back of the turn order.
+    fn back(&mut self, t: u8) {
+        let at = self.order[..self.slices].iter().position(|&u| u == t).unwrap();
+        self.order[at..self.slices].rotate_left(1);
     }
 
     fn choose(&mut self) -> usize {
@@ -304,8 +310,7 @@ impl Machine {
         if x.left > 0 {
             return Ok(0);
         }
-        let at = self.order[..self.slices].iter().position(|&u| u == t).unwrap();
-        self.order[at..self.slices].rotate_left(1);
+        self.back(t);
         self.park(t, Place::Spent);
         Ok(self.choose())
     }
@@ -384,6 +389,25 @@ impl Machine {
         self.live -= 1;
         Ok(w.links + self.choose())
     }
+
+    fn rank(&mut self, t: u8, priority: u8) -> Result<usize, u8> {
+        if t > 127 {
+            return Err(2);
+        }
+        if !self.timeslices[t as usize].live {
+            return Err(4);
+        }
+        match self.timeslices[t as usize].place {
+            Place::Queue => {
+                self.release(Place::Behind(t));
+            }
+            Place::Behind(_) => self.timeslices[t as usize].place = Place::Queue,
+            _ => {}
+        }
+        self.timeslices[t as usize].priority = priority;
+        self.back(t);
+        Ok(self.choose())
+    }
 }
 
 fn number(out: &mut Vec<u8>, n: usize) {
@@ -413,7 +437,8 @@ fn key(file: &[u8]) -> Vec<u8> {
             7 => m.charge(word(0)),
             8 => m.abort(tail[0]),
             9 => m.refill(tail[0]),
-            _ => m.remove(tail[0]),
+            10 => m.remove(tail[0]),
+            _ => m.rank(tail[0], tail[1]),
         };
         rest = &rest[1 + *length as usize..];
         event += 1;

@@ -12,7 +12,7 @@ use Rattle.rules.specs.Refusals.{refusal}
 use Rattle.rules.specs.Events.{midway, settle, dispatchAfter}
 use Rattle.rules.specs.Events as events
 use Rattle.rules.specs.Plain.{plainOffer, emptyPlain}
-use Rattle.rules.specs.Lists.{GiveRanged, AllRanged, linksOf}
+use Rattle.rules.specs.Lists.{Ranged, AllRanged, linksOf}
 use Rattle.rules.proofs.Basics.Views.{Two, yes-true, no-false, two}
 use Rattle.rules.proofs.Soundness.Places.{sound-of}
 use Rattle.rules.proofs.Events.Hands.{linkLimit}
@@ -55,7 +55,7 @@ unfolding events.dispatch
 answer-links true e s n = links-after (refusal e (forget s)) e s n
 answer-links false e s n = refl
 
-pub demand-1 : (e : Event) (m : Machine) (r : Answered) → GiveRanged e → Answers (answerTo e m) m r → Ends e m r
+pub demand-1 : (e : Event) (m : Machine) (r : Answered) → Ranged e → Answers (answerTo e m) m r → Ends e m r
 demand-1 e m r f a =
     let number : r .refusal ≡ firstRefusal e m = a .refusal ∙ answer-number (soundMachine m) e (shown m) in
     record {

@@ -5,7 +5,7 @@ use mathlib.Core.Bool.{Bool, true}
 use Rattle.rules.specs.declared.Event.{Event}
 use Rattle.rules.specs.Sound.{sound}
 use Rattle.rules.specs.Events as events
-use Rattle.rules.specs.Lists.{GiveRanged}
+use Rattle.rules.specs.Lists.{Ranged}
 use Rattle.rules.proofs.Basics.Views.{and-true-left, and-true-both}
 use Rattle.rules.proofs.Computing.{computing}
 use Rattle.rules.proofs.Agreement.{offer-sound}
@@ -31,7 +31,7 @@ pub as-offered : (e : Event) (m : Machine) → soundMachine m ≡ true → answe
 as-offered e m h = ap (λ (b : Bool). events.offerIf b e (shown m)) h ∙ sym (offer-sound e (shown m) (sound-shown m h))
 
 -- an event offered to a sound machine hands back a sound machine
-pub answered-sound : (e : Event) (m : Machine) (r : Answered) → GiveRanged e → soundMachine m ≡ true → Answers (answerTo e m) m r
+pub answered-sound : (e : Event) (m : Machine) (r : Answered) → Ranged e → soundMachine m ≡ true → Answers (answerTo e m) m r
     → soundMachine (r .machine) ≡ true
 unfolding soundMachine
 answered-sound e m r f h a =
@@ -40,7 +40,7 @@ answered-sound e m r f h a =
     (ap sound (a .state ∙ ap (λ (z : events.Answered). z .state) (as-offered e m h)) ∙ accepted-sound e (shown m) f (sound-shown m h))
 
 -- the same through the inner door, which does not test soundness: its answer is the definitions' on a sound machine
-pub dispatched-sound : (e : Event) (m : Machine) (r : Answered) → GiveRanged e → soundMachine m ≡ true
+pub dispatched-sound : (e : Event) (m : Machine) (r : Answered) → Ranged e → soundMachine m ≡ true
     → Answers (events.dispatch e (shown m)) m r → soundMachine (r .machine) ≡ true
 dispatched-sound e m r f h a =
     answered-sound e m r f h (subst (λ (z : events.Answered). Answers z m r) (sym (ap (λ (b : Bool). events.offerIf b e (shown m)) h)) a)

@@ -1,4 +1,4 @@
--- Give, charge, refill, abort and remove: the stored machine after their changes shows the state after them, and is stored.
+-- Give, charge, refill, abort, remove and rank: the stored machine after their changes shows the state after them, and is stored.
 use Prim.Native.Nat.{ℕ, suc, _+_, _-_, _≤_, _<_}
 use mathlib.Core.Path.{_≡_, refl, sym, _∙_, ap, ap₂, subst}
 use mathlib.Core.List.{List, [], _∷_, _++_, map}
@@ -17,24 +17,25 @@ use Rattle.rules.specs.declared.Chain.{Chain}
 use Rattle.rules.specs.declared.Running.the-variants.{Runs}
 use Rattle.rules.specs.declared.Timeslice.{Timeslice}
 use Rattle.rules.specs.Tests.{member}
-use Rattle.rules.specs.State.{Slice, State, freeSlice, sliceAt, leftAt, withThreads, withPlaces, withTimeslices}
+use Rattle.rules.specs.State.{Slice, State, freeSlice, sliceAt, leftAt, placeAt, withThreads, withPlaces, withTimeslices}
 use Rattle.rules.specs.Walk.{walk}
-use Rattle.rules.specs.Timeslices.{withLeft, setLeft, given, last, without, charged, refilled, struck}
+use Rattle.rules.specs.Timeslices.{withLeft, setLeft, given, last, without, toBack, charged, refilled, struck, ranked}
 use Rattle.rules.specs.Release.{behind, release}
 use Rattle.rules.specs.Choice.{Outcome, park, choose}
 use Rattle.rules.specs.Events.{withGiven, releaseWalked, afterWalk, endBlocked, strikeOut, depletes, spends, chargeBy, charge}
-use Rattle.rules.specs.Events.{withRefilled, overtakes, settleIf, settle}
+use Rattle.rules.specs.Events.{withRefilled, detached, withRanked, overtakes, settleIf, settle}
 use Rattle.dispatcher.specs.declared.Machine.{Machine}
 use Rattle.dispatcher.specs.declared.Answered.{Answered}
-use Rattle.tables.specs.Timeslices.{sliceOf, placeOf, freeTimeslice}
+use Rattle.tables.specs.Timeslices.{sliceOf, placeOf, freeTimeslice, setPriority}
 use Rattle.dispatcher.specs.Shown.{shown, stored}
-use Rattle.tables.specs.Releasing.{placesAfter, Replaced}
+use Rattle.tables.specs.Releasing.{placesAfter, detachedPlaces, Replaced}
 use Rattle.tables.specs.Turning.{Turned, StruckOut}
 use Rattle.dispatcher.specs.Choosing.{before, Settled, Chosen}
 use Rattle.rules.proofs.Basics.Views.{Same, equal, different, same}
 use Rattle.rules.proofs.Order.Orders.{length-without}
 use Rattle.tables.proofs.Lookups.{slice-at, map-set}
 use Rattle.tables.proofs.ReleaseLoop.{release-is}
+use Rattle.tables.proofs.Detaching.{ranked-slices, ranked-places, detached-is}
 use Rattle.dispatcher.proofs.Stored.{live-is, turns-fit, free-zero, stored-of}
 
 -- a new timeslice, last in turn order
@@ -270,3 +271,15 @@ module _ (m : Machine) (k t : ℕ) (at : k ≡ t) where
         order = take (m .«live_timeslices») (m .order);
         running = m .running;
       }
+
+-- a rank: the timeslice is detached, takes the priority and goes to the back
+pub rank-shown : (m : Machine) (t priority : ℕ) (apart ts : List Timeslice) (back : List ℕ)
+    → Replaced (m .timeslices)
+    (detachedPlaces t (shown m .slices) (shown m .order) (shown m .places) (placeAt (shown m .places) t)) apart
+    → ts ≡ setPriority t priority apart → take (m .«live_timeslices») back ≡ toBack t (shown m .order)
+    → shown (movedTo (m .threads) ts back m) ≡ withRanked t priority (detached t (shown m) (placeAt (shown m .places) t))
+rank-shown m t priority apart ts back r is turns =
+    let slices = ap (map sliceOf) is ∙ ranked-slices apart t priority ∙ ap (ranked t priority) (r .slices) in
+    let places = ap (map placeOf) is ∙ ranked-places apart t priority ∙ r .places in
+    (λ i. record { threads = m .threads; slices = slices i; places = places i; order = turns i; running = m .running })
+    ∙ ap (withRanked t priority) (sym (detached-is t (shown m) (placeAt (shown m .places) t)))

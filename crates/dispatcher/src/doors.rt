@@ -1,6 +1,6 @@
 // The events offered to any machine: an unsound one is refused with 1, and a sound one goes through the inner door. `offer` takes any
 // event; each kind has its method too.
-ghost use Rattle.rules.specs.declared.Event.the-variants.{Create, Give, Call, Reply, Block, Wake, Charge, Abort, Refill, Remove};
+ghost use Rattle.rules.specs.declared.Event.the-variants.{Create, Give, Call, Reply, Block, Wake, Charge, Abort, Refill, Remove, Rank};
 ghost use Rattle.rules.specs.Events.{offerIf};
 ghost use Rattle.dispatcher.specs.Shown.{shown, soundMachine};
 ghost use Rattle.dispatcher.specs.Promise.{Answers};
@@ -82,5 +82,14 @@ impl Machine {
         ensures { λ r. ⌜ Answers (offerIf (soundMachine self) (Remove thread) (shown self)) self r ⌝ }
     {
         self.offer(Event::Remove { thread })
+    }
+
+    pub fn rank(mut self, timeslice: u8, priority: u8) -> Answered
+        ensures { λ r. ⌜ Answers (offerIf (soundMachine self) (Rank timeslice priority) (shown self)) self r ⌝ }
+    {
+        self.offer(Event::Rank {
+            timeslice,
+            priority,
+        })
     }
 }

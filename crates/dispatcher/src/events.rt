@@ -14,6 +14,7 @@ mod call;
 mod charge;
 mod create;
 mod give;
+mod rank;
 mod refill;
 mod remove;
 mod reply;
@@ -42,6 +43,10 @@ impl Machine {
             Event::Abort { thread } => self.dispatch_abort(thread),
             Event::Refill { timeslice } => self.dispatch_refill(timeslice),
             Event::Remove { thread } => self.dispatch_remove(thread),
+            Event::Rank {
+                timeslice,
+                priority,
+            } => self.dispatch_rank(timeslice, priority),
         }
     }
 }

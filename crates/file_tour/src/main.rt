@@ -33,7 +33,11 @@ fn listed(place: u8) -> Event {
         7 => Event::Charge { units: 65535 },
         8 => Event::Abort { thread: 2 },
         9 => Event::Refill { timeslice: 5 },
-        _ => Event::Remove { thread: 127 },
+        10 => Event::Remove { thread: 127 },
+        _ => Event::Rank {
+            timeslice: 5,
+            priority: 255,
+        },
     }
 }
 
@@ -60,7 +64,7 @@ fn append_listed(buffer: &mut [u8], filled: usize, place: u8) -> usize {
 // Starts a file and appends the list; the bytes filled.
 fn write(buffer: &mut [u8]) -> usize {
     let mut filled = start_file(b"start: ", buffer);
-    for place in 0..11 {
+    for place in 0..12 {
         filled = append_listed(buffer, filled, place);
     }
     filled

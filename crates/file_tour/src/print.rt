@@ -47,6 +47,13 @@ pub(crate) fn event(event: Event) {
         Event::Abort { thread } => number(b"abort thread ", thread as usize),
         Event::Refill { timeslice } => number(b"refill timeslice ", timeslice as usize),
         Event::Remove { thread } => number(b"remove thread ", thread as usize),
+        Event::Rank {
+            timeslice,
+            priority,
+        } => {
+            number(b"rank timeslice ", timeslice as usize);
+            number(b" priority ", priority as usize);
+        }
     }
 }
 

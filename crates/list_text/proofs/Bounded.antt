@@ -10,7 +10,7 @@ use borrow.Author.Tests.{le-leb, leb-true}
 use Rattle.rules.specs.declared.Role.{Role}
 use Rattle.rules.specs.declared.Role.the-variants.{Client, Server}
 use Rattle.rules.specs.declared.Event.{Event}
-use Rattle.rules.specs.declared.Event.the-variants.{Create, Give, Call, Reply, Block, Wake, Charge, Abort, Refill, Remove}
+use Rattle.rules.specs.declared.Event.the-variants.{Create, Give, Call, Reply, Block, Wake, Charge, Abort, Refill, Remove, Rank}
 use Rattle.rules.specs.Tests.{all}
 use Rattle.rules.specs.EventFile.{byte, roleByte, fits, allFit, recordOf}
 use Rattle.rules.specs.Key.{bytes}
@@ -93,7 +93,10 @@ bounded-named w ws =
     (λ e. bounded-number 65535 5 (λ units. words.last (Charge units)) (λ n small. bounded-last (Charge n) (two-bytes n small)) ws)
     (either (words.same w (bytes "abort")) _ _ (λ e. bounded-one Abort one-byte ws)
     (either (words.same w (bytes "refill")) _ _ (λ e. bounded-one Refill one-byte ws)
-    (either (words.same w (bytes "remove")) _ _ (λ e. bounded-one Remove one-byte ws) tt)))))))))
+    (either (words.same w (bytes "remove")) _ _ (λ e. bounded-one Remove one-byte ws)
+    (either (words.same w (bytes "rank")) _ _
+    (λ e. bounded-number 255 4 (λ t ws. number 255 4 ws (λ p. words.last (Rank t p)))
+    (λ t first. bounded-one (Rank t) (λ p second. and-byte t _ first (one-byte p second))) ws) tt))))))))))
 
 bounded-words : (ws : List (List ℕ)) → Bounded (lineOfWords ws)
 bounded-words [] = tt

@@ -3,10 +3,10 @@ use Prim.Native.Nat.{ℕ}
 use Prim.Native.String.{String}
 use mathlib.Core.Path.{_≡_, refl}
 use mathlib.Core.Bool.{Bool, true, false}
-use mathlib.Core.List.{List, [], _∷_}
+use mathlib.Core.List.{List, [], _∷_, _++_}
 use Rattle.rules.specs.declared.Role.the-variants.{Client, Server}
 use Rattle.rules.specs.declared.Event.{Event}
-use Rattle.rules.specs.declared.Event.the-variants.{Create, Give, Call, Reply, Block, Wake, Charge, Abort, Refill, Remove}
+use Rattle.rules.specs.declared.Event.the-variants.{Create, Give, Call, Reply, Block, Wake, Charge, Abort, Refill, Remove, Rank}
 use Rattle.rules.specs.Tests.{all}
 use Rattle.rules.specs.Key.{bytes, digits, decimal}
 use Rattle.list_text.specs.Writing.{eventWords, textOf}
@@ -18,11 +18,12 @@ use Rattle.list_text.specs.Reading.{Answer, read, refused, readLines, re
 events : List Event
 events =
     Create 10 Server ∷ Create 0 Client ∷ Give 0 0 40 100 ∷ Call 10 ∷ Reply ∷ Block ∷ Wake 3 ∷ Charge 65535 ∷ Abort 2 ∷ Refill 0
-    ∷ Remove 10 ∷ []
+    ∷ Remove 10 ∷ Rank 0 200 ∷ []
 
 text : List ℕ
 text =
-    bytes "create 10 server\ncreate 0 client\ngive 0 0 40 100\ncall 10\nreply\nblock\nwake 3\ncharge 65535\nabort 2\nrefill 0\nremove 10\n"
+    bytes "create 10 server\ncreate 0 client\ngive 0 0 40 100\ncall 10\nreply\nblock\nwake 3\ncharge 65535\nabort 2\nrefill 0\n"
+    ++ bytes "remove 10\nrank 0 200\n"
 
 written : textOf events ≡ text
 unfolding textOf eventWords bytes decimal digits events text

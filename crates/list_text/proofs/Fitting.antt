@@ -6,7 +6,7 @@ use mathlib.Core.Bool.{true}
 use mathlib.Core.List.{List, _∷_}
 use borrow.Author.Tests.{leb-true}
 use Rattle.rules.specs.declared.Event.{Event}
-use Rattle.rules.specs.declared.Event.the-variants.{Create, Give, Call, Reply, Block, Wake, Charge, Abort, Refill, Remove}
+use Rattle.rules.specs.declared.Event.the-variants.{Create, Give, Call, Reply, Block, Wake, Charge, Abort, Refill, Remove, Rank}
 use Rattle.rules.specs.Tests.{all}
 use Rattle.rules.specs.EventFile.{byte, fits}
 use Rattle.rules.proofs.Basics.Members.{all-head, all-tail}
@@ -22,6 +22,7 @@ Small (Charge units) = units < 65536
 Small (Abort n) = n < 256
 Small (Refill t) = t < 256
 Small (Remove n) = n < 256
+Small (Rank t priority) = (t < 256) × (priority < 256)
 
 first : (n : ℕ) (l : List ℕ) → all byte (n ∷ l) ≡ true → n < 256
 first n l h = omega (arith, leb-true n 255 (all-head byte n l h))
@@ -41,3 +42,4 @@ small (Charge units) h = omega (arith, first _ _ h)
 small (Abort n) h = first n _ h
 small (Refill t) h = first t _ h
 small (Remove n) h = first n _ h
+small (Rank t priority) h = (first t _ h, first priority _ (all-tail byte t _ h))

@@ -9,7 +9,7 @@ use borrow.Author.Tests.{ltb-true, ltb-false, ne-eqb}
 use Rattle.rules.specs.declared.Role.{Role}
 use Rattle.rules.specs.declared.Role.the-variants.{Client, Server}
 use Rattle.rules.specs.declared.Event.{Event}
-use Rattle.rules.specs.declared.Event.the-variants.{Create, Give, Call, Reply, Block, Wake, Charge, Abort, Refill, Remove}
+use Rattle.rules.specs.declared.Event.the-variants.{Create, Give, Call, Reply, Block, Wake, Charge, Abort, Refill, Remove, Rank}
 use Rattle.rules.specs.Tests.{all}
 use Rattle.rules.specs.Key.{bytes, digit, decimal}
 use Rattle.rules.proofs.Basics.Views.{Two, yes-true, no-false, two, and-true-both}
@@ -89,6 +89,7 @@ words-plain (Charge units) = cons _ _ refl (cons _ _ (decimal-plain units) none)
 words-plain (Abort n) = cons _ _ refl (cons _ _ (decimal-plain n) none)
 words-plain (Refill t) = cons _ _ refl (cons _ _ (decimal-plain t) none)
 words-plain (Remove n) = cons _ _ refl (cons _ _ (decimal-plain n) none)
+words-plain (Rank t priority) = cons _ _ refl (cons _ _ (decimal-plain t) (cons _ _ (decimal-plain priority) none))
 
 -- the parts of a line of words between its spaces
 spaces : (w : List ℕ) (ws : List (List ℕ)) → AllWords (w ∷ ws) → parts space (joined 32 (w ∷ ws)) ≡ w ∷ ws
@@ -114,6 +115,7 @@ first-word (Charge units) = some-part _ _ refl
 first-word (Abort n) = some-part _ _ refl
 first-word (Refill t) = some-part _ _ refl
 first-word (Remove n) = some-part _ _ refl
+first-word (Rank t priority) = some-part _ _ refl
 
 pub event-plain : (e : Event) → plainLine (eventWords e) ≡ true
 event-plain e = rw (words-joined e) (line-plain (wordList e) (first-word e) (event-words e) (words-plain e))

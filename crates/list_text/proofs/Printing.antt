@@ -6,7 +6,7 @@ use types.Run.{OneOf}
 use denote.Enum.Declared.{tagOf}
 use lib.ListN.{length}
 use Rattle.rules.specs.declared.Event.{Event}
-use Rattle.rules.specs.declared.Event.the-variants.{Give}
+use Rattle.rules.specs.declared.Event.the-variants.{Give, Rank}
 use Rattle.rules.specs.EventFile.{fileRefusal, eventsOf, event, stepped}
 use Rattle.rules.specs.EventFile as file
 use Rattle.rules.specs.Key.{bytes, decimal}
@@ -62,9 +62,13 @@ module _ {file before now : List ℕ} {at offset : ℕ} (g : Going file before n
       let nothing-left = ap (λ (l : List Event). g .text ++ textOf l) (sym (none-left (g .left) f other found)) in
       reading (sym (append-nil (g .text)) ∙ nothing-left ∙ g .whole) (g .put)
 
--- four numbers, each with what stands before it
+-- numbers, each with what stands before it
 pub give-in-parts : (t n priority quantum : ℕ)
     → (bytes "give " ++ decimal t) ++ (bytes " " ++ decimal n) ++ (bytes " " ++ decimal priority) ++ (bytes " " ++ decimal quantum)
     ≡ eventWords (Give t n priority quantum)
 unfolding eventWords
 give-in-parts t n priority quantum = simp append-assoc
+
+pub rank-in-parts : (t priority : ℕ) → (bytes "rank " ++ decimal t) ++ (bytes " " ++ decimal priority) ≡ eventWords (Rank t priority)
+unfolding eventWords
+rank-in-parts t priority = simp append-assoc

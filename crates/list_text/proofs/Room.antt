@@ -9,7 +9,7 @@ use lib.ListN.{length, length-append}
 use Rattle.rules.specs.declared.Role.{Role}
 use Rattle.rules.specs.declared.Role.the-variants.{Client, Server}
 use Rattle.rules.specs.declared.Event.{Event}
-use Rattle.rules.specs.declared.Event.the-variants.{Create, Give, Call, Reply, Block, Wake, Charge, Abort, Refill, Remove}
+use Rattle.rules.specs.declared.Event.the-variants.{Create, Give, Call, Reply, Block, Wake, Charge, Abort, Refill, Remove, Rank}
 use Rattle.rules.specs.EventFile.{Bytes, fits, allFit, recordOf, recordsOf, fileRefusal, eventsOf}
 use Rattle.rules.specs.Key.{bytes}
 use Rattle.rules.proofs.Basics.Views.{and-true-left, and-true-right}
@@ -48,6 +48,9 @@ line-length (Charge units) h = simp length-append (omega (arith, five-long units
 line-length (Abort n) h = simp length-append (omega (arith, three-long n (omega (arith, small (Abort n) h))))
 line-length (Refill t) h = simp length-append (omega (arith, three-long t (omega (arith, small (Refill t) h))))
 line-length (Remove n) h = simp length-append (omega (arith, three-long n (omega (arith, small (Remove n) h))))
+line-length (Rank t priority) h =
+    let x = small (Rank t priority) h in
+    simp length-append (omega (arith, three-long t (omega (arith, x)), three-long priority (omega (arith, x))))
 
 pub text-length : (es : List Event) → allFit es ≡ true → length (textOf es) ≤ 5 * length (recordsOf es)
 unfolding textOf recordsOf allFit bytes

@@ -9,7 +9,7 @@ use borrow.Author.Tests.{le-leb, leb-true, ne-eqb}
 use Rattle.rules.specs.declared.Role.{Role}
 use Rattle.rules.specs.declared.Role.the-variants.{Client, Server}
 use Rattle.rules.specs.declared.Event.{Event}
-use Rattle.rules.specs.declared.Event.the-variants.{Create, Give, Call, Reply, Block, Wake, Charge, Abort, Refill, Remove}
+use Rattle.rules.specs.declared.Event.the-variants.{Create, Give, Call, Reply, Block, Wake, Charge, Abort, Refill, Remove, Rank}
 use Rattle.rules.specs.Tests.{all}
 use Rattle.rules.specs.Key.{bytes, decimal}
 use Rattle.rules.proofs.Basics.Views.{Two, yes-true, no-false, two, Either, first, second, or-true-cases, and-true-left, and-true-right}
@@ -38,6 +38,7 @@ wordList (Charge units) = bytes "charge" ∷ decimal units ∷ []
 wordList (Abort n) = bytes "abort" ∷ decimal n ∷ []
 wordList (Refill t) = bytes "refill" ∷ decimal t ∷ []
 wordList (Remove n) = bytes "remove" ∷ decimal n ∷ []
+wordList (Rank t priority) = bytes "rank" ∷ decimal t ∷ decimal priority ∷ []
 
 pub words-joined : (e : Event) → eventWords e ≡ joined 32 (wordList e)
 unfolding eventWords joined bytes
@@ -51,6 +52,7 @@ words-joined (Charge units) = refl
 words-joined (Abort n) = refl
 words-joined (Refill t) = refl
 words-joined (Remove n) = refl
+words-joined (Rank t priority) = simp append-assoc
 
 -- a word of letters and digits, and the bytes of a line of them
 pub record Word (word : List ℕ) : Type 0 where
@@ -154,6 +156,7 @@ event-words (Charge units) = (record { some = refl; plain = refl }, (decimal-wor
 event-words (Abort n) = (record { some = refl; plain = refl }, (decimal-word n, tt))
 event-words (Refill t) = (record { some = refl; plain = refl }, (decimal-word t, tt))
 event-words (Remove n) = (record { some = refl; plain = refl }, (decimal-word n, tt))
+event-words (Rank t priority) = (record { some = refl; plain = refl }, (decimal-word t, (decimal-word priority, tt)))
 
 -- a decimal is read as its number
 number-back : (most above n : ℕ) (rest : List (List ℕ)) (next : ℕ → List (List ℕ) → Line) → n ≤ most
@@ -188,3 +191,6 @@ event-back (Charge units) h = number-back 65535 5 units [] (λ units. words.last
 event-back (Abort n) h = number-back 255 4 n [] (λ n. words.last (Abort n)) (omega arith)
 event-back (Refill t) h = number-back 255 4 t [] (λ t. words.last (Refill t)) (omega arith)
 event-back (Remove n) h = number-back 255 4 n [] (λ n. words.last (Remove n)) (omega arith)
+event-back (Rank t priority) h =
+    number-back 255 4 t (decimal priority ∷ []) (λ t ws. number 255 4 ws (λ p. words.last (Rank t p))) (omega arith)
+    ∙ number-back 255 4 priority [] (λ p. words.last (Rank t p)) (omega arith)

@@ -10,13 +10,13 @@ use borrow.Author.Tests.{le-leb, lt-leb, leb-true, leb-false}
 use Rattle.rules.specs.declared.Role.{Role}
 use Rattle.rules.specs.declared.Role.the-variants.{Client, Server}
 use Rattle.rules.specs.declared.Event.{Event}
-use Rattle.rules.specs.declared.Event.the-variants.{Create, Give}
+use Rattle.rules.specs.declared.Event.the-variants.{Create, Give, Rank}
 use Rattle.rules.specs.Tests.{all}
 use Rattle.rules.specs.Key.{bytes}
 use Rattle.rules.proofs.Basics.Views.{Two, yes-true, no-false, two}
 use Rattle.list_text.specs.declared.Line.{Line}
 use Rattle.list_text.specs.declared.Line.the-variants.{One, Wrong}
-use Rattle.list_text.specs.Reading.{wordsOf, digitByte, valueFrom, value, number, last, create, give}
+use Rattle.list_text.specs.Reading.{wordsOf, digitByte, valueFrom, value, number, last, create, give, rank}
 use Rattle.list_text.specs.Reading as words
 use Rattle.list_text.specs.Scanning.{capped, numeral, orWrong, firstFault, TakesNumber, TakesRole, TakesNothing, TakesLast}
 
@@ -107,15 +107,19 @@ first-is (suc a) b line = refl
 in-turn : (fault a b : ℕ) (line after : Line) → fault ≡ firstFault a b → after ≡ orWrong b line → orWrong fault line ≡ orWrong a after
 in-turn fault a b line after e f = rw e (first-is a b line ∙ ap (orWrong a) (sym f))
 
+-- a number, and then what is read of the words after it
+number-then : {line : List ℕ} {at most above fault value to whole : ℕ} (rest : ℕ) (event : Event)
+    (next : ℕ → List (List ℕ) → Line) → TakesNumber line at most above fault value to → whole ≡ firstFault fault rest
+    → next value (wordsOf (drop to line)) ≡ orWrong rest (One event)
+    → number most above (wordsOf (drop at line)) next ≡ orWrong whole (One event)
+number-then {line} {at} {most} {above} {fault} {value} {to} {whole} rest event next first e after =
+    first .is next ∙ sym (in-turn whole fault rest (One event) _ e after)
+
 -- one number and nothing else
 pub takes-last : {line : List ℕ} {at most above fault value to over whole : ℕ} → TakesNumber line at most above fault value to
     → TakesNothing line to over → whole ≡ firstFault fault over → TakesLast line at most above whole value
 takes-last {line} {at} {most} {above} {fault} {value} {to} {over} {whole} first end e =
-    record {
-      is =
-          λ make. first .is (λ n. last (make n))
-          ∙ sym (in-turn whole fault over (One (make value)) _ e (end .is (make value)));
-    }
+    record { is = λ make. number-then over (make value) (λ n. last (make n)) first e (end .is (make value)) }
 
 -- one byte and nothing else
 pub byte-words : {line : List ℕ} {at fault value n : ℕ} (make : ℕ → Event) → TakesLast line at 255 4 fault value → n ≡ value
@@ -129,7 +133,15 @@ pub create-words : {line : List ℕ} {at fault value to fault′ to′ over rest
 create-words {line} {at} {fault} {value} {to} {fault′} {to′} {over} {rest} {whole} {n} {r} first second end e f same =
     let event = Create value r in
     let inner = second .is (λ r. last (Create value r)) ∙ sym (in-turn rest fault′ over (One event) _ e (end .is event)) in
-    rw same (in-turn whole fault rest (One event) _ f inner ∙ sym (first .is (λ m ws. words.role ws (λ r. last (Create m r)))))
+    rw same (sym (number-then rest event (λ m ws. words.role ws (λ r. last (Create m r))) first f inner))
+
+-- two bytes and nothing else
+pub rank-words : {line : List ℕ} {at fault value to rest value′ whole t priority : ℕ}
+    → TakesNumber line at 255 4 fault value to → TakesLast line to 255 4 rest value′ → whole ≡ firstFault fault rest
+    → t ≡ value → priority ≡ value′ → orWrong whole (One (Rank t priority)) ≡ rank (wordsOf (drop at line))
+rank-words {line} {at} {fault} {value} {to} {rest} {value′} first second e t-is priority-is =
+    rw (t-is, priority-is)
+    (sym (number-then rest (Rank value value′) (λ t ws. number 255 4 ws (λ p. last (Rank t p))) first e (second .is (Rank value))))
 
 -- four numbers, from the last fault back to the first
 module _ {line : List ℕ} {at f₁ v₁ to₁ f₂ v₂ to₂ f₃ v₃ to₃ f₄ v₄ to₄ over from₄ from₃ from₂ whole : ℕ}
@@ -141,21 +153,19 @@ module _ {line : List ℕ} {at f₁ v₁ to₁ f₂ v₂ to₂ f₃ v₃ to₃ f
   event = Give v₁ v₂ v₃ v₄
 
   from-fourth : number 65535 5 (wordsOf (drop to₃ line)) (λ q. last (Give v₁ v₂ v₃ q)) ≡ orWrong from₄ (One event)
-  from-fourth = fourth .is (λ q. last (Give v₁ v₂ v₃ q)) ∙ sym (in-turn from₄ f₄ over (One event) _ e₄ (end .is event))
+  from-fourth = number-then over event (λ q. last (Give v₁ v₂ v₃ q)) fourth e₄ (end .is event)
 
   from-third : number 255 4 (wordsOf (drop to₂ line)) (λ p ws. number 65535 5 ws (λ q. last (Give v₁ v₂ p q))) ≡ orWrong from₃ (One event)
-  from-third =
-      third .is (λ p ws. number 65535 5 ws (λ q. last (Give v₁ v₂ p q))) ∙ sym (in-turn from₃ f₃ from₄ (One event) _ e₃ from-fourth)
+  from-third = number-then from₄ event (λ p ws. number 65535 5 ws (λ q. last (Give v₁ v₂ p q))) third e₃ from-fourth
 
   from-second : number 255 4 (wordsOf (drop to₁ line)) (λ n ws. number 255 4 ws (λ p ws. number 65535 5 ws (λ q. last (Give v₁ n p q))))
       ≡ orWrong from₂ (One event)
   from-second =
-      second .is (λ n ws. number 255 4 ws (λ p ws. number 65535 5 ws (λ q. last (Give v₁ n p q))))
-      ∙ sym (in-turn from₂ f₂ from₃ (One event) _ e₂ from-third)
+      number-then from₃ event (λ n ws. number 255 4 ws (λ p ws. number 65535 5 ws (λ q. last (Give v₁ n p q)))) second e₂ from-third
 
   pub give-words : {t n priority : ℕ} → t ≡ v₁ → n ≡ v₂ → priority ≡ v₃
       → orWrong whole (One (Give t n priority v₄)) ≡ give (wordsOf (drop at line))
   give-words t-is n-is priority-is =
       rw (t-is, n-is, priority-is)
-      (in-turn whole f₁ from₂ (One event) _ e₁ from-second
-      ∙ sym (first .is (λ t ws. number 255 4 ws (λ n ws. number 255 4 ws (λ p ws. number 65535 5 ws (λ q. last (Give t n p q)))))))
+      (sym (number-then from₂ event
+      (λ t ws. number 255 4 ws (λ n ws. number 255 4 ws (λ p ws. number 65535 5 ws (λ q. last (Give t n p q))))) first e₁ from-second))

@@ -10,7 +10,7 @@ use borrow.Author.Tests.{eqb-true}
 use Rattle.rules.specs.declared.Role.{Role}
 use Rattle.rules.specs.declared.Role.the-variants.{Client, Server}
 use Rattle.rules.specs.declared.Event.{Event}
-use Rattle.rules.specs.declared.Event.the-variants.{Create, Give, Call, Reply, Block, Wake, Charge, Abort, Refill, Remove}
+use Rattle.rules.specs.declared.Event.the-variants.{Create, Give, Call, Reply, Block, Wake, Charge, Abort, Refill, Remove, Rank}
 use Rattle.rules.specs.Tests.{all}
 use Rattle.rules.specs.Key.{bytes, decimal}
 use Rattle.rules.proofs.Basics.Views.{and-true-left, and-true-right, and3}
@@ -113,11 +113,11 @@ read-role front next h (w ∷ ws) =
 abbrev after : String → List (List ℕ) → List (List ℕ)
 after name ws = bytes name ∷ ws
 
-read-one : (name : String) (make : ℕ → Event) (most above : ℕ) → ((n : ℕ) → bytes name ∷ decimal n ∷ [] ≡ wordList (make n))
-    → (ws : List (List ℕ)) → AllPlain ws → Read (after name) ws (number most above ws (λ n. words.last (make n)))
-read-one name make most above h =
-    read-number (after name) most above (λ n. words.last (make n))
-    (λ n ws a. read-last (λ ws. after name (decimal n ∷ ws)) (make n) (h n) ws)
+read-one : (front : List (List ℕ) → List (List ℕ)) (make : ℕ → Event) (most above : ℕ)
+    → ((n : ℕ) → front (decimal n ∷ []) ≡ wordList (make n))
+    → (ws : List (List ℕ)) → AllPlain ws → Read front ws (number most above ws (λ n. words.last (make n)))
+read-one front make most above h =
+    read-number front most above (λ n. words.last (make n)) (λ n ws a. read-last (λ ws. front (decimal n ∷ ws)) (make n) (h n) ws)
 
 read-create : (ws : List (List ℕ)) → AllPlain ws → Read (after "create") ws (words.create ws)
 read-create =
@@ -133,22 +133,27 @@ read-give =
     (λ n ws. number 255 4 ws (λ p ws. number 65535 5 ws (λ q. words.last (Give t n p q))))
     (λ n ws a. read-number (λ ws. after "give" (decimal t ∷ decimal n ∷ ws)) 255 4
     (λ p ws. number 65535 5 ws (λ q. words.last (Give t n p q)))
-    (λ p ws a. read-number (λ ws. after "give" (decimal t ∷ decimal n ∷ decimal p ∷ ws)) 65535 5 (λ q. words.last (Give t n p q))
-    (λ q ws a. read-last (λ ws. after "give" (decimal t ∷ decimal n ∷ decimal p ∷ decimal q ∷ ws)) (Give t n p q) refl ws) ws a) ws a) ws a)
+    (λ p. read-one (λ ws. after "give" (decimal t ∷ decimal n ∷ decimal p ∷ ws)) (Give t n p) 65535 5 (λ q. refl)) ws a) ws a)
+
+read-rank : (ws : List (List ℕ)) → AllPlain ws → Read (after "rank") ws (words.rank ws)
+read-rank =
+    read-number (after "rank") 255 4 (λ t ws. number 255 4 ws (λ p. words.last (Rank t p)))
+    (λ t. read-one (λ ws. after "rank" (decimal t ∷ ws)) (Rank t) 255 4 (λ p. refl))
 
 pub read-named : (w : List ℕ) (ws : List (List ℕ)) → AllPlain ws → Read (λ ws. ws) (w ∷ ws) (eventNamed w ws)
 unfolding eventNamed
 read-named w ws a =
     is "create" (words.create ws) _ (read-create ws a)
     (is "give" (words.give ws) _ (read-give ws a)
-    (is "call" (words.call ws) _ (read-one "call" Call 255 4 (λ n. refl) ws a)
+    (is "call" (words.call ws) _ (read-one (after "call") Call 255 4 (λ n. refl) ws a)
     (is "reply" (words.last Reply ws) _ (read-last (after "reply") Reply refl ws)
     (is "block" (words.last Block ws) _ (read-last (after "block") Block refl ws)
-    (is "wake" (words.wake ws) _ (read-one "wake" Wake 255 4 (λ n. refl) ws a)
-    (is "charge" (words.charge ws) _ (read-one "charge" Charge 65535 5 (λ n. refl) ws a)
-    (is "abort" (words.abort ws) _ (read-one "abort" Abort 255 4 (λ n. refl) ws a)
-    (is "refill" (words.refill ws) _ (read-one "refill" Refill 255 4 (λ n. refl) ws a)
-    (is "remove" (words.remove ws) (Wrong 1) (read-one "remove" Remove 255 4 (λ n. refl) ws a) tt)))))))))
+    (is "wake" (words.wake ws) _ (read-one (after "wake") Wake 255 4 (λ n. refl) ws a)
+    (is "charge" (words.charge ws) _ (read-one (after "charge") Charge 65535 5 (λ n. refl) ws a)
+    (is "abort" (words.abort ws) _ (read-one (after "abort") Abort 255 4 (λ n. refl) ws a)
+    (is "refill" (words.refill ws) _ (read-one (after "refill") Refill 255 4 (λ n. refl) ws a)
+    (is "remove" (words.remove ws) _ (read-one (after "remove") Remove 255 4 (λ n. refl) ws a)
+    (is "rank" (words.rank ws) (Wrong 1) (read-rank ws a) tt))))))))))
   where
     is : (name : String) (x y : Line) → Read (after name) ws x → Read (λ ws. ws) (w ∷ ws) y
         → Read (λ ws. ws) (w ∷ ws) (cond (words.same w (bytes name)) x y)

@@ -7,7 +7,7 @@ use lib.Dec.{leb, ltb, eqb}
 use Rattle.rules.specs.declared.Role.{Role}
 use Rattle.rules.specs.declared.Role.the-variants.{Client, Server}
 use Rattle.rules.specs.declared.Event.{Event}
-use Rattle.rules.specs.declared.Event.the-variants.{Create, Give, Call, Reply, Block, Wake, Charge, Abort, Refill, Remove}
+use Rattle.rules.specs.declared.Event.the-variants.{Create, Give, Call, Reply, Block, Wake, Charge, Abort, Refill, Remove, Rank}
 use Rattle.rules.specs.Tests.{all}
 use Rattle.rules.specs.EventFile.{recordOf}
 use Rattle.rules.specs.Key.{bytes}
@@ -142,6 +142,9 @@ refill words = byteNumber words (λ t. last (Refill t))
 abbrev pub remove : List (List ℕ) → Line
 remove words = byteNumber words (λ n. last (Remove n))
 
+abbrev pub rank : List (List ℕ) → Line
+rank words = byteNumber words (λ t words. byteNumber words (λ priority. last (Rank t priority)))
+
 -- the event that the first word names
 unfoldable pub eventNamed : List ℕ → List (List ℕ) → Line
 eventNamed word words =
@@ -155,7 +158,8 @@ eventNamed word words =
     (cond (same word (bytes "abort")) (abort words)
     (cond (same word (bytes "refill")) (refill words)
     (cond (same word (bytes "remove")) (remove words)
-    (Wrong noSuchEvent))))))))))
+    (cond (same word (bytes "rank")) (rank words)
+    (Wrong noSuchEvent)))))))))))
 
 abbrev pub lineOfWords : List (List ℕ) → Line
 lineOfWords [] = Empty

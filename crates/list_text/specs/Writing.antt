@@ -4,7 +4,7 @@ use mathlib.Core.List.{List, [], _∷_, _++_}
 use Rattle.rules.specs.declared.Role.{Role}
 use Rattle.rules.specs.declared.Role.the-variants.{Client, Server}
 use Rattle.rules.specs.declared.Event.{Event}
-use Rattle.rules.specs.declared.Event.the-variants.{Create, Give, Call, Reply, Block, Wake, Charge, Abort, Refill, Remove}
+use Rattle.rules.specs.declared.Event.the-variants.{Create, Give, Call, Reply, Block, Wake, Charge, Abort, Refill, Remove, Rank}
 use Rattle.rules.specs.EventFile.{fileRefusal, eventsOf}
 use Rattle.rules.specs.Key.{bytes, decimal, fileLine}
 
@@ -25,6 +25,7 @@ eventWords (Charge units) = bytes "charge " ++ decimal units
 eventWords (Abort n) = bytes "abort " ++ decimal n
 eventWords (Refill t) = bytes "refill " ++ decimal t
 eventWords (Remove n) = bytes "remove " ++ decimal n
+eventWords (Rank t priority) = bytes "rank " ++ decimal t ++ bytes " " ++ decimal priority
 
 unfoldable pub textOf : List Event → List ℕ
 textOf [] = []

@@ -129,6 +129,23 @@ fn remove(line: &[u8], at: usize) -> Line
     answer(last.fault, Event::Remove { thread })
 }
 
+fn rank(line: &[u8], at: usize) -> Line
+    ensures { λ r. ⌜ r ≡ reading.rank (wordsOf (drop at (now (line .entry)))) ⌝ }
+{
+    let first = take_number(line, at, 255, 4);
+    let last = take_last(line, first.to, 255, 4);
+    let fault = first_fault(first.fault, last.fault);
+    let timeslice = narrow(first.value);
+    let priority = narrow(last.value);
+    answer(
+        fault,
+        Event::Rank {
+            timeslice,
+            priority,
+        },
+    )
+}
+
 // An event without operands.
 fn alone(line: &[u8], at: usize, event: Event) -> Line
     ensures { λ r. ⌜ r ≡ last event (wordsOf (drop at (now (line .entry)))) ⌝ }
@@ -170,6 +187,9 @@ fn named(word: &[u8], line: &[u8], at: usize) -> Line
     }
     if same(word, b"remove") {
         return remove(line, at);
+    }
+    if same(word, b"rank") {
+        return rank(line, at);
     }
     Line::Wrong(1)
 }

@@ -32,6 +32,10 @@ pub fn record_length(event: Event) -> usize
         Event::Abort { thread: _ } => 3,
         Event::Refill { timeslice: _ } => 3,
         Event::Remove { thread: _ } => 3,
+        Event::Rank {
+            timeslice: _,
+            priority: _,
+        } => 4,
     }
 }
 
@@ -80,12 +84,19 @@ fn put_three(out: &mut [u8], at: usize, a: u8, b: u8, c: u8) -> usize
     put_byte(out, third, c)
 }
 
+// The record of an event with two operands of one byte.
+fn put_four(out: &mut [u8], at: usize, a: u8, b: u8, c: u8, d: u8) -> usize
+    ensures { λ r. ⌜ Put (now (out .entry)) (now (out .exit)) at r (a ∷ b ∷ c ∷ d ∷ []) ⌝ }
+{
+    let fourth = put_three(out, at, a, b, c);
+    put_byte(out, fourth, d)
+}
+
 fn put_create(out: &mut [u8], at: usize, thread: u8, role: Role) -> usize
     ensures { λ r. ⌜ Put (now (out .entry)) (now (out .exit)) at r (recordOf (Event.Create thread role)) ⌝ }
 {
     let byte = role_byte(role);
-    let last = put_three(out, at, 3, 1, thread);
-    put_byte(out, last, byte)
+    put_four(out, at, 3, 1, thread, byte)
 }
 
 fn put_give(
@@ -129,6 +140,10 @@ fn put_record(out: &mut [u8], at: usize, event: Event) -> usize
         Event::Abort { thread } => put_three(out, at, 2, 8, thread),
         Event::Refill { timeslice } => put_three(out, at, 2, 9, timeslice),
         Event::Remove { thread } => put_three(out, at, 2, 10, thread),
+        Event::Rank {
+            timeslice,
+            priority,
+        } => put_four(out, at, 3, 11, timeslice, priority),
     }
 }
 

@@ -55,6 +55,13 @@ fn put_give(
     put_named(out, fourth, b" ", quantum as u64)
 }
 
+fn put_rank(out: &mut [u8], at: usize, timeslice: u8, priority: u8) -> usize
+    ensures { λ r. ⌜ Put (now (out .entry)) (now (out .exit)) at r (eventWords (Event.Rank timeslice priority)) ⌝ }
+{
+    let second = put_named(out, at, b"rank ", timeslice as u64);
+    put_named(out, second, b" ", priority as u64)
+}
+
 fn put_event(out: &mut [u8], at: usize, event: Event) -> usize
     ensures { λ r. ⌜ Put (now (out .entry)) (now (out .exit)) at r (eventWords event) ⌝ }
 {
@@ -74,6 +81,10 @@ fn put_event(out: &mut [u8], at: usize, event: Event) -> usize
         Event::Abort { thread } => put_named(out, at, b"abort ", thread as u64),
         Event::Refill { timeslice } => put_named(out, at, b"refill ", timeslice as u64),
         Event::Remove { thread } => put_named(out, at, b"remove ", thread as u64),
+        Event::Rank {
+            timeslice,
+            priority,
+        } => put_rank(out, at, timeslice, priority),
     }
 }
 

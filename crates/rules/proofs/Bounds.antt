@@ -14,7 +14,7 @@ use Rattle.rules.specs.declared.Chain.{Chain}
 use Rattle.rules.specs.declared.Running.{Running}
 use Rattle.rules.specs.declared.Running.the-variants.{Nothing, Runs}
 use Rattle.rules.specs.declared.Event.{Event}
-use Rattle.rules.specs.declared.Event.the-variants.{Create, Give, Call, Reply, Block, Wake, Charge, Abort, Refill, Remove}
+use Rattle.rules.specs.declared.Event.the-variants.{Create, Give, Call, Reply, Block, Wake, Charge, Abort, Refill, Remove, Rank}
 use Rattle.rules.specs.Tests.{member, distinct}
 use Rattle.rules.specs.State.{State, Plain, forget, limit, freeThread, ownerAt, liveAt, oneMoreIf, liveThreads}
 use Rattle.rules.specs.Walk.{Link, noLinks}
@@ -52,6 +52,7 @@ refusal-most (Charge units) p = search refusal-numbers depth 7
 refusal-most (Abort n) p = search refusal-numbers depth 7
 refusal-most (Refill t) p = search refusal-numbers depth 7
 refusal-most (Remove n) p = search refusal-numbers depth 7
+refusal-most (Rank t priority) p = search refusal-numbers depth 7
 
 after-most : (k : ℕ) (e : Event) (s : State) → k ≤ 18 → dispatchAfter k e s .refusal ≤ 18
 after-most zero e s h = h

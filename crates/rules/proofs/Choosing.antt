@@ -6,3 +6,4 @@ pub mod Slices
 pub mod Parking
 pub mod Retrying
 pub mod Choices
+pub mod Keeping

@@ -10,7 +10,7 @@ use Rattle.rules.specs.Sound.{sound}
 use Rattle.rules.specs.Refusals.{refusal}
 use Rattle.rules.specs.Events.{Answered, dispatchAfter, dispatch, offerIf, offer}
 use Rattle.rules.specs.Plain.{PlainAnswered, emptyPlain, plainOffer}
-use Rattle.rules.specs.Lists.{GiveRanged, AllRanged, run, plainRun, Seen, seen, plainSeen, linksOf}
+use Rattle.rules.specs.Lists.{Ranged, AllRanged, run, plainRun, Seen, seen, plainSeen, linksOf}
 use Rattle.rules.specs.EventFile.{Bytes, fileRefusal, eventsOf}
 use Rattle.rules.specs.Key.{bytes, columns, shortLines, shortKeyAfter, shortKey, plainLines, plainKeyAfter, plainKey}
 use Rattle.rules.proofs.Computing.{computing}
@@ -20,7 +20,7 @@ use Rattle.rules.proofs.Files.Records.{all-ranged}
 use Rattle.rules.proofs.Files.Inverse.{events-fit}
 
 -- DEMAND 1, accepted. From every sound machine every accepted event gives a sound machine.
-pub accepted-sound : (e : Event) (s : State) → GiveRanged e → sound s ≡ true → sound (offer e s .state) ≡ true
+pub accepted-sound : (e : Event) (s : State) → Ranged e → sound s ≡ true → sound (offer e s .state) ≡ true
 accepted-sound e s f h = of-sound (offer e s .state) (agrees e s (sound-of s h) f .sound)
 
 -- DEMAND 1, refused. On every machine, sound or not, a refused event gives the machine as it was, and no link is followed.

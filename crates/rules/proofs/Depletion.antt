@@ -18,11 +18,11 @@ use Rattle.rules.specs.declared.Place.the-variants.{Queue, Behind, On, S
 use Rattle.rules.specs.declared.Running.{Running}
 use Rattle.rules.specs.declared.Running.the-variants.{Nothing, Runs}
 use Rattle.rules.specs.declared.Event.{Event}
-use Rattle.rules.specs.declared.Event.the-variants.{Create, Give, Call, Reply, Block, Wake, Charge, Abort, Refill, Remove}
+use Rattle.rules.specs.declared.Event.the-variants.{Create, Give, Call, Reply, Block, Wake, Charge, Abort, Refill, Remove, Rank}
 use Rattle.rules.specs.Tests.{member}
-use Rattle.rules.specs.State.{Slice, State, Plain, forget, freeSlice, holdAt, serviceAt, leftAt, placeAt}
+use Rattle.rules.specs.State.{Slice, State, Plain, forget, freeSlice, holdAt, serviceAt, sliceAt, leftAt, placeAt}
 use Rattle.rules.specs.Threads.{replied}
-use Rattle.rules.specs.Timeslices.{ownOf, given, without, charged, refilled, struck}
+use Rattle.rules.specs.Timeslices.{withPriority, ownOf, given, without, charged, refilled, struck, ranked}
 use Rattle.rules.specs.Release.{isSpent}
 use Rattle.rules.specs.Sound.{sound}
 use Rattle.rules.specs.Refusals.{refusal, aboveLimit}
@@ -30,14 +30,15 @@ use Rattle.rules.specs.Events.{offer}
 use Rattle.rules.specs.Plain.{plainThreads, plainRunning, plainCall, plainCallAt, plainReply, plainReplyTo, plainBlock}
 use Rattle.rules.specs.Plain.{plainCharge, plainStrike, update}
 use Rattle.rules.specs.Plain.{plainOfferAfter, plainOffer}
-use Rattle.rules.specs.Lists.{GiveRanged}
+use Rattle.rules.specs.Lists.{Ranged}
 use Rattle.rules.proofs.Basics.Views.{clash}
 use Rattle.rules.proofs.Basics.Accepting.{passes}
 use Rattle.rules.proofs.Order.Orders.{member-without}
 use Rattle.rules.proofs.Soundness.Places.{Sound, sound-of}
 use Rattle.rules.proofs.Choosing.Tops.{top-queued}
 use Rattle.rules.proofs.Events.Hands.{active}
-use Rattle.rules.proofs.Events.Lefts.{left-others, in-table}
+use Rattle.rules.proofs.Events.Rewrites.{field-kept, in-table}
+use Rattle.rules.proofs.Events.Lefts.{left-others}
 use Rattle.rules.proofs.Judging.{judge-slices, judge-order}
 use Rattle.rules.proofs.Agreement.{agrees}
 
@@ -132,6 +133,14 @@ module _ (s : State) (x : Sound s) (t : ℕ) (listed : member t (s .order) ≡ t
       let other : t ≡ u → ⊥ = λ z. clash (member u (without u (s .order))) (rw z at still) gone in
       ap (λ (y : Slice). y .left) (getD-set-other (s .slices) u t freeSlice freeSlice other)
 
+  -- a rank changes no `left`
+  ranked-kept : (u priority : ℕ) → refusal (Rank u priority) p ≡ 0 → leftAt (ranked u priority (s .slices)) t ≡ leftAt (s .slices) t
+  unfolding ranked
+  ranked-kept u priority k =
+      let live = passes (not (member u (s .order))) 3 0 (passes (aboveLimit u) 1 _ k .1) .0 in
+      let inside = in-table (x .mid) u (not-false (member u (s .order)) live) in
+      field-kept (s .slices) u (withPriority priority (sliceAt (s .slices) u)) inside (λ y. y .left) refl t
+
   -- all kinds of event: a further kind is one more line
   update-kept : (e : Event) → refusal e p ≡ 0 → (e ≡ Refill t → ⊥) → member t (update e p .order) ≡ true
       → leftAt (update e p .slices) t ≡ leftAt (s .slices) t
@@ -145,6 +154,7 @@ module _ (s : State) (x : Sound s) (t : ℕ) (listed : member t (s .order) ≡ t
   update-kept (Abort n) k other still = refl
   update-kept (Refill u) k other still = refilled-kept u k other
   update-kept (Remove n) k other still = struck-kept (ownOf (s .slices) n (s .order)) still
+  update-kept (Rank u priority) k other still = ranked-kept u priority k
 
   offered-kept : (e : Event) (k : ℕ) → refusal e p ≡ k → (e ≡ Refill t → ⊥) → member t (plainOfferAfter k e p .plain .order) ≡ true
       → leftAt (plainOfferAfter k e p .plain .slices) t ≡ leftAt (s .slices) t
@@ -160,7 +170,7 @@ spent-is Stalled e = clash false e refl
 spent-is Spent e = refl
 
 -- a Spent timeslice is Spent after every event but its refill, accepted or refused, as long as it is there
-pub spent-until-refilled : (e : Event) (s : State) → GiveRanged e → sound s ≡ true → (t : ℕ) → member t (s .order) ≡ true
+pub spent-until-refilled : (e : Event) (s : State) → Ranged e → sound s ≡ true → (t : ℕ) → member t (s .order) ≡ true
     → placeAt (s .places) t ≡ Spent → (e ≡ Refill t → ⊥) → member t (offer e s .state .order) ≡ true
     → placeAt (offer e s .state .places) t ≡ Spent
 unfolding plainOffer

@@ -1,6 +1,7 @@
 -- What each event hands to the choice.
 pub mod Hands
 pub mod Joining
+pub mod Rewrites
 pub mod Lefts
 pub mod Cutting
 pub mod CreateEvent
@@ -13,3 +14,4 @@ pub mod ChargeEvent
 pub mod AbortEvent
 pub mod RefillEvent
 pub mod RemoveEvent
+pub mod RankEvent

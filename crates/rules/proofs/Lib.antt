@@ -1,5 +1,6 @@
 -- What is proved about the definitions of specs/. Demands.antt has the theorems about the machines, Files/Inverse.antt those about event
--- files; MarkedSequences.antt has K1 to K11, Depletion.antt what a Spent timeslice is, Removal.antt that freed numbers are free.
+-- files; MarkedSequences.antt has K1 to K11, Depletion.antt what a Spent timeslice is, Removal.antt that freed numbers are free,
+-- Ranking.antt what a rank leaves.
 pub mod Computing
 pub mod MarkedSequences
 pub mod Basics
@@ -16,3 +17,4 @@ pub mod Demands
 pub mod Judging
 pub mod Depletion
 pub mod Removal
+pub mod Ranking

@@ -10,7 +10,7 @@ use Rattle.rules.specs.declared.Role.the-variants.{Client, Server}
 use Rattle.rules.specs.declared.Place.{Place}
 use Rattle.rules.specs.declared.Place.the-variants.{Queue, Behind, On, Stalled, Spent}
 use Rattle.rules.specs.declared.Event.{Event}
-use Rattle.rules.specs.declared.Event.the-variants.{Create, Give, Call, Reply, Block, Wake, Charge, Abort, Refill, Remove}
+use Rattle.rules.specs.declared.Event.the-variants.{Create, Give, Call, Reply, Block, Wake, Charge, Abort, Refill, Remove, Rank}
 use Rattle.rules.specs.State.{State, empty, placeAt}
 use Rattle.rules.specs.Sound.{sound}
 use Rattle.rules.specs.Lists.{after}
@@ -313,15 +313,62 @@ loopRemoved =
       places = at 0 Queue ∷ [];
     }
 
+-- Rank, document 02, [4]: refused with 2 and 4. The same priority again goes to the back; one that is Spent or On stays there, and comes
+-- back with its new priority and turn.
+unfoldable pub rankedInTurn : Row
+rankedInTurn =
+    record {
+      file =
+          fileOf
+          (Create 0 Client ∷ Create 1 Client ∷ Give 0 0 10 5 ∷ Give 1 1 10 5 ∷ Rank 0 10 ∷ Rank 128 10 ∷ Rank 2 10 ∷ Rank 1 10 ∷ Charge 5
+          ∷ Rank 0 255 ∷ Block ∷ Rank 1 0 ∷ Refill 0 ∷ Wake 1 ∷ Rank 0 0 ∷ []);
+      prints =
+          lines
+          ("1 ok 0 - - 0" with-links "0" ∷ "2 ok 0 - - 0" with-links "0" ∷ "3 ok 0 0 0 0" with-links "0" ∷ "4 ok 0 0 0 0" with-links "0"
+          ∷ "5 ok 0 1 1 0" with-links "0" ∷ "6 no 2 1 1 0" with-links "0" ∷ "7 no 4 1 1 0" with-links "0"
+          ∷ "8 ok 0 0 0 0" with-links "0" ∷ "9 ok 0 1 1 0" with-links "0" ∷ "10 ok 0 1 1 0" with-links "0"
+          ∷ "11 ok 0 - - 0" with-links "0" ∷ "12 ok 0 - - 0" with-links "0" ∷ "13 ok 0 0 0 0" with-links "0"
+          ∷ "14 ok 0 0 0 0" with-links "0" ∷ "15 ok 0 1 1 0" with-links "0" ∷ []);
+      places = at 0 Queue ∷ at 1 Queue ∷ [];
+    }
+
+-- A lowered leader: of its followers 3 stands above and goes to Queue, 0 goes Behind that one; the leader stays in Queue, at the back.
+unfoldable pub leaderRanked : Row
+leaderRanked =
+    record {
+      file = fileOf (leading ++ (Rank 2 5 ∷ []));
+      prints = lines (leadingPrints ++ ("13 ok 0 1 3 0" with-links "1" ∷ []));
+      places = at 0 (Behind 3) ∷ at 2 Queue ∷ at 3 Queue ∷ [];
+    }
+
+-- A follower raised above its leader pays for the server that its owner called; the other follower moves to Queue though it stays below.
+unfoldable pub followerRanked : Row
+followerRanked =
+    record {
+      file = fileOf (leading ++ (Rank 0 30 ∷ Rank 3 15 ∷ []));
+      prints = lines (leadingPrints ++ ("13 ok 0 1 0 1" with-links "1" ∷ "14 ok 0 1 0 1" with-links "1" ∷ []));
+      places = at 0 Queue ∷ at 2 Queue ∷ at 3 Queue ∷ [];
+    }
+
+-- K7's loop: a Stalled timeslice stays Stalled, and no link is followed.
+unfoldable pub stalledRanked : Row
+stalledRanked =
+    record {
+      file = fileOf (seven ++ (Rank 0 200 ∷ []));
+      prints = lines (sevenPrints ++ ("8 ok 0 - - 0" with-links "0" ∷ []));
+      places = at 0 Stalled ∷ [];
+    }
+
 unfoldable pub rows : List Row
 rows =
     K1 ∷ K2 ∷ K3 ∷ K4 ∷ K5 ∷ K6 ∷ K7 ∷ K8 ∷ K9 ∷ K10 ∷ K11 ∷ ownTimeslice ∷ refilledInTurn ∷ spentLeader ∷ serverRemoved
-    ∷ leaderRemoved ∷ callerRemoved ∷ loopRemoved ∷ []
+    ∷ leaderRemoved ∷ callerRemoved ∷ loopRemoved ∷ rankedInTurn ∷ leaderRanked ∷ followerRanked ∷ stalledRanked ∷ []
 
 pub marked : All Meets rows
 unfolding computing linesText plainLinesText text plainText stands placesOf machineAfter result expected K1 two twoPrints K2 K3 four
     fourPrints K4 K5 K6 seven sevenPrints K7 K8 K9 K10 K11 ownTimeslice refilledInTurn leading
-    leadingPrints spentLeader serverRemoved leaderRemoved callerRemoved loopRemoved rows
+    leadingPrints spentLeader serverRemoved leaderRemoved callerRemoved loopRemoved rankedInTurn leaderRanked followerRanked stalledRanked
+    rows
 marked = (
   refl,
   (
@@ -340,7 +387,7 @@ marked = (
                 refl,
                 (
                   refl,
-                  (refl, (refl, (refl, (refl, (refl, (refl, (refl, (refl, (refl, tt))))))))),
+                  (refl, (refl, (refl, (refl, (refl, (refl, (refl, (refl, (refl, (refl, (refl, (refl, (refl, tt))))))))))))),
                 ),
               ),
             ),

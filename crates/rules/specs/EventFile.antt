@@ -9,7 +9,7 @@ use lib.Dec.{leb, ltb, eqb}
 use Rattle.rules.specs.declared.Role.{Role}
 use Rattle.rules.specs.declared.Role.the-variants.{Client, Server}
 use Rattle.rules.specs.declared.Event.{Event}
-use Rattle.rules.specs.declared.Event.the-variants.{Create, Give, Call, Reply, Block, Wake, Charge, Abort, Refill, Remove}
+use Rattle.rules.specs.declared.Event.the-variants.{Create, Give, Call, Reply, Block, Wake, Charge, Abort, Refill, Remove, Rank}
 use Rattle.rules.specs.Tests.{all}
 use Rattle.rules.specs.Refusals.{_gives_else_}
 
@@ -32,7 +32,8 @@ abbrev pub roleByte : Role → ℕ
 roleByte Client = 0
 roleByte Server = 1
 
--- "Kinds: 1 create; 2 give; 3 call; 4 reply; 5 block; 6 wake; 7 charge; 8 abort"; document 02: "Kind 9, refill", "Kind 10, remove"
+-- "Kinds: 1 create; 2 give; 3 call; 4 reply; 5 block; 6 wake; 7 charge; 8 abort"; document 02: "Kind 9, refill", "Kind 10,
+-- remove", "Kind 11, rank"
 abbrev pub kindOf : Event → ℕ
 kindOf (Create n r) = 1
 kindOf (Give t n priority quantum) = 2
@@ -44,9 +45,10 @@ kindOf (Charge units) = 7
 kindOf (Abort n) = 8
 kindOf (Refill t) = 9
 kindOf (Remove n) = 10
+kindOf (Rank t priority) = 11
 
 -- "create (thread, role ..); give (timeslice, thread, priority, quantum in 2 bytes); call (server); wake (thread); charge (2 bytes);
--- abort (thread)"; "refill (timeslice)"; "remove (thread)"
+-- abort (thread)"; "refill (timeslice)"; "remove (thread)"; "rank (timeslice, priority)"
 abbrev pub operandsOf : Event → List ℕ
 operandsOf (Create n r) = n ∷ roleByte r ∷ []
 operandsOf (Give t n priority quantum) = t ∷ n ∷ priority ∷ highByte quantum ∷ lowByte quantum ∷ []
@@ -58,6 +60,7 @@ operandsOf (Charge units) = highByte units ∷ lowByte units ∷ []
 operandsOf (Abort n) = n ∷ []
 operandsOf (Refill t) = t ∷ []
 operandsOf (Remove n) = n ∷ []
+operandsOf (Rank t priority) = t ∷ priority ∷ []
 
 -- "A record: one length byte counting what follows it, a kind byte, operands."
 abbrev pub recordOf : Event → List ℕ
@@ -86,7 +89,7 @@ fourBytes n = n / 16777216 ∷ n / 65536 % 256 ∷ n / 256 % 256 ∷ n % 256 ∷
 unfoldable pub fileOf : List Event → List ℕ
 fileOf es = fourBytes (1 + length (recordsOf es)) ++ (1 ∷ recordsOf es)
 
--- operands: none, one byte, one number of two bytes; none fits another length
+-- operands: none, one byte, two bytes; none fits another length
 abbrev pub noOperand : Event → List ℕ → Option Event
 noOperand e [] = some e
 noOperand e (a ∷ rest) = none
@@ -96,20 +99,20 @@ oneByte f [] = none
 oneByte f (a ∷ []) = some (f a)
 oneByte f (a ∷ b ∷ rest) = none
 
-abbrev pub oneWord : (ℕ → Event) → List ℕ → Option Event
-oneWord f [] = none
-oneWord f (a ∷ []) = none
-oneWord f (a ∷ b ∷ []) = some (f (wordOf a b))
-oneWord f (a ∷ b ∷ c ∷ rest) = none
+abbrev pub twoBytes : (ℕ → ℕ → Option Event) → List ℕ → Option Event
+twoBytes f [] = none
+twoBytes f (a ∷ []) = none
+twoBytes f (a ∷ b ∷ []) = f a b
+twoBytes f (a ∷ b ∷ c ∷ rest) = none
 
 abbrev pub createWith : ℕ → ℕ → Option Event
 createWith n role = cond (eqb role 0) (some (Create n Client)) (cond (eqb role 1) (some (Create n Server)) none)
 
-abbrev pub createFrom : List ℕ → Option Event
-createFrom [] = none
-createFrom (a ∷ []) = none
-createFrom (a ∷ b ∷ []) = createWith a b
-createFrom (a ∷ b ∷ c ∷ rest) = none
+abbrev pub chargeWith : ℕ → ℕ → Option Event
+chargeWith high low = some (Charge (wordOf high low))
+
+abbrev pub rankWith : ℕ → ℕ → Option Event
+rankWith t priority = some (Rank t priority)
 
 abbrev pub giveFrom : List ℕ → Option Event
 giveFrom [] = none
@@ -123,16 +126,17 @@ giveFrom (a ∷ b ∷ c ∷ d ∷ e ∷ f ∷ rest) = none
 -- the kinds, read: the event of that kind with these operands, or none where they do not fit it
 abbrev pub eventOf : ℕ → List ℕ → Option Event
 eventOf kind operands =
-    cond (eqb kind 1) (createFrom operands)
+    cond (eqb kind 1) (twoBytes createWith operands)
     (cond (eqb kind 2) (giveFrom operands)
     (cond (eqb kind 3) (oneByte Call operands)
     (cond (eqb kind 4) (noOperand Reply operands)
     (cond (eqb kind 5) (noOperand Block operands)
     (cond (eqb kind 6) (oneByte Wake operands)
-    (cond (eqb kind 7) (oneWord Charge operands)
+    (cond (eqb kind 7) (twoBytes chargeWith operands)
     (cond (eqb kind 8) (oneByte Abort operands)
     (cond (eqb kind 9) (oneByte Refill operands)
-    (cond (eqb kind 10) (oneByte Remove operands) none)))))))))
+    (cond (eqb kind 10) (oneByte Remove operands)
+    (cond (eqb kind 11) (twoBytes rankWith operands) none))))))))))
 
 abbrev pub bodyOf : List ℕ → Option Event
 bodyOf [] = none

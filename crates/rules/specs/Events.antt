@@ -1,4 +1,4 @@
--- Document 01, "Events", and document 02, [2] and [3]: what an accepted event does to the dispatcher's machine.
+-- Document 01, "Events", and document 02, [2] to [4]: what an accepted event does to the dispatcher's machine.
 use Prim.Native.Nat.{ℕ, zero, suc, _+_, _-_}
 use mathlib.Core.List.{List}
 use mathlib.Core.Bool.{Bool, true, false, cond}
@@ -11,19 +11,20 @@ use Rattle.rules.specs.declared.Hold.the-variants.{Ready, Idle, Blocked,
 use Rattle.rules.specs.declared.Service.{Service}
 use Rattle.rules.specs.declared.Service.the-variants.{Nobody, Serving, Orphan}
 use Rattle.rules.specs.declared.Thread.{Thread}
-use Rattle.rules.specs.declared.Place.the-variants.{Queue, Spent}
+use Rattle.rules.specs.declared.Place.{Place}
+use Rattle.rules.specs.declared.Place.the-variants.{Queue, Behind, On, Stalled, Spent}
 use Rattle.rules.specs.declared.Running.{Running}
 use Rattle.rules.specs.declared.Running.the-variants.{Nothing, Runs}
 use Rattle.rules.specs.declared.Chain.{Chain}
 use Rattle.rules.specs.declared.Event.{Event}
-use Rattle.rules.specs.declared.Event.the-variants.{Create, Give, Call, Reply, Block, Wake, Charge, Abort, Refill, Remove}
-use Rattle.rules.specs.State.{State, forget, freePlace, holdAt, serviceAt, leftAt}
+use Rattle.rules.specs.declared.Event.the-variants.{Create, Give, Call, Reply, Block, Wake, Charge, Abort, Refill, Remove, Rank}
+use Rattle.rules.specs.State.{State, forget, freePlace, holdAt, serviceAt, leftAt, placeAt}
 use Rattle.rules.specs.State.{withThreads, withPlaces, withRunning, withTimeslices}
 use Rattle.rules.specs.Order.{standsAbove}
 use Rattle.rules.specs.Walk.{walk}
 use Rattle.rules.specs.Threads.{setHold, created, donate, replied, aborted, removed}
-use Rattle.rules.specs.Timeslices.{ownOf, given, last, without, toBack, charged, refilled, struck}
-use Rattle.rules.specs.Release.{onThread, stalled, topmostAt, release}
+use Rattle.rules.specs.Timeslices.{ownOf, given, last, without, toBack, charged, refilled, struck, ranked}
+use Rattle.rules.specs.Release.{behind, onThread, stalled, topmostAt, release}
 use Rattle.rules.specs.Choice.{Outcome, park, choose}
 use Rattle.rules.specs.Sound.{isBlocked, sound}
 use Rattle.rules.specs.Refusals.{refusal}
@@ -175,6 +176,22 @@ remove n s =
     let s′ = strikeOut (ownOf (s .slices) n (s .order)) s in
     afterWalk c (endBlocked c (s .threads)) (withThreads (removed n (s .threads)) s′)
 
+-- Rank, document 02, [4]: "In Queue, its followers are released first; Behind another, it moves to Queue; in any other place it stays."
+abbrev pub detached : ℕ → State → Place → State
+detached t s Queue = release (behind t) s
+detached t s (Behind q) = withPlaces (set (s .places) t Queue) s
+detached t s (On n) = s
+detached t s Stalled = s
+detached t s Spent = s
+
+-- Rank: "The timeslice takes that priority and goes to the back of the turn order."
+abbrev pub withRanked : ℕ → ℕ → State → State
+withRanked t priority s = withTimeslices (ranked t priority (s .slices)) (toBack t (s .order)) s
+
+-- Rank: "Choice follows."
+unfoldable pub rank : ℕ → ℕ → State → Midway
+rank t priority s = choosesIn (withRanked t priority (detached t s (placeAt (s .places) t)))
+
 -- the machine that an accepted event hands to the choice, or that is its result
 abbrev pub midway : Event → State → Midway
 midway (Create n r) s = create n r s
@@ -187,6 +204,7 @@ midway (Charge units) s = charge units s
 midway (Abort n) s = abort n s
 midway (Refill t) s = refill t s
 midway (Remove n) s = remove n s
+midway (Rank t priority) s = rank t priority s
 
 abbrev pub settleIf : Bool → Outcome → Outcome
 settleIf true o = choose o

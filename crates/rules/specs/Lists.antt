@@ -5,7 +5,7 @@ use mathlib.Core.List.{List, [], _∷_, map}
 use Rattle.rules.specs.declared.Thread.{Thread}
 use Rattle.rules.specs.declared.Running.{Running}
 use Rattle.rules.specs.declared.Event.{Event}
-use Rattle.rules.specs.declared.Event.the-variants.{Give}
+use Rattle.rules.specs.declared.Event.the-variants.{Give, Rank}
 use Rattle.rules.specs.State.{State, Plain}
 use Rattle.rules.specs.Walk.{Link, linkOf}
 use Rattle.rules.specs.Events.{Answered, offer}
@@ -40,11 +40,12 @@ seen a = record { refusal = a .refusal; running = a .state .running; links = lin
 abbrev pub plainSeen : PlainAnswered → Seen
 plainSeen a = record { refusal = a .refusal; running = a .plain .running; links = linksOf (a .plain .threads) }
 
--- "a priority 0 to 255 .., a quantum 1 to 65,535": a give holds no more. Its operands cannot, so an event of the code and an event read
--- from bytes never do; of the other events nothing is asked.
-abbrev pub GiveRanged : Event → Type 0
-GiveRanged e = (t n priority quantum : ℕ) → e ≡ Give t n priority quantum → (priority ≤ 255) × (quantum ≤ 65535)
+-- "a priority 0 to 255 .., a quantum 1 to 65,535": a give and a rank hold no more. Their operands cannot, so an event of the code and an
+-- event read from bytes never do; of the other events nothing is asked.
+pub record Ranged (e : Event) : Type 0 where
+  pub give : (t n priority quantum : ℕ) → e ≡ Give t n priority quantum → (priority ≤ 255) × (quantum ≤ 65535)
+  pub rank : (t priority : ℕ) → e ≡ Rank t priority → priority ≤ 255
 
 abbrev pub AllRanged : List Event → Type 0
 AllRanged [] = Unit {0}
-AllRanged (e ∷ es) = GiveRanged e × AllRanged es
+AllRanged (e ∷ es) = Ranged e × AllRanged es

@@ -14,12 +14,12 @@ use Rattle.rules.specs.declared.Running.{Running}
 use Rattle.rules.specs.declared.Running.the-variants.{Nothing, Runs}
 use Rattle.rules.specs.declared.Chain.{Chain}
 use Rattle.rules.specs.declared.Event.{Event}
-use Rattle.rules.specs.declared.Event.the-variants.{Create, Give, Call, Reply, Block, Wake, Charge, Abort, Refill, Remove}
+use Rattle.rules.specs.declared.Event.the-variants.{Create, Give, Call, Reply, Block, Wake, Charge, Abort, Refill, Remove, Rank}
 use Rattle.rules.specs.State.{Slice, Plain, limit, freeThread, freeSlice, holdAt, serviceAt, leftAt, liveThreads}
 use Rattle.rules.specs.Order.{topmost}
 use Rattle.rules.specs.Walk.{chainOf, verdict, mayRun, Verdict, runs, retries, waits, stalls}
 use Rattle.rules.specs.Threads.{setHold, created, donate, replied, aborted, removed}
-use Rattle.rules.specs.Timeslices.{ownOf, given, last, without, toBack, charged, refilled, struck}
+use Rattle.rules.specs.Timeslices.{ownOf, given, last, without, toBack, charged, refilled, struck, ranked}
 use Rattle.rules.specs.Refusals.{refusal}
 
 abbrev pub emptyPlain : Plain
@@ -90,6 +90,7 @@ update (Charge units) p = plainCharge units p (p .running)
 update (Abort n) p = plainThreads (aborted n (p .threads)) p
 update (Refill t) p = plainTimeslices (refilled t (p .slices)) (p .order) p
 update (Remove n) p = plainThreads (removed n (p .threads)) (plainStrike (ownOf (p .slices) n (p .order)) p)
+update (Rank t priority) p = plainTimeslices (ranked t priority (p .slices)) (toBack t (p .order)) p
 
 -- "If that end is Idle, the last helper's retry is made as above and it judges again. If the end is Ready, that thread runs,
 -- this timeslice is current, and the count is its chain's." (The others do not let it run.)

@@ -5,7 +5,7 @@ use mathlib.Core.Bool.{Bool, true, false, cond, not, _||_}
 use mathlib.Core.Option.{Option, none, some}
 use lib.Dec.{ltb, eqb}
 use Rattle.rules.specs.declared.Event.{Event}
-use Rattle.rules.specs.declared.Event.the-variants.{Create, Give, Call, Reply, Block, Wake, Charge, Abort, Refill, Remove}
+use Rattle.rules.specs.declared.Event.the-variants.{Create, Give, Call, Reply, Block, Wake, Charge, Abort, Refill, Remove, Rank}
 use Rattle.rules.specs.Tests.{member}
 use Rattle.rules.specs.State.{Plain, holdAt, liveAt, leftAt, nothingRuns, runningThread, currentTimeslice}
 pub use Rattle.rules.specs.Holds.{linked}
@@ -66,3 +66,7 @@ refusal (Refill t) p =
 refusal (Remove n) p =
     aboveLimit n gives 2 else
     not (liveAt (p .threads) n) gives 4 else 0
+-- Rank, document 02, [4]: "Refused with 1, 2 (timeslice number) or 4 (no such live timeslice), in that order."
+refusal (Rank t priority) p =
+    aboveLimit t gives 2 else
+    not (member t (p .order)) gives 4 else 0

@@ -1,4 +1,4 @@
--- Document 01, "Events", and document 02, [2] and [3]: what they do to the timeslices and the turn order, in either machine.
+-- Document 01, "Events", and document 02, [2] to [4]: what they do to the timeslices and the turn order, in either machine.
 use Prim.Native.Nat.{ℕ, _-_}
 use mathlib.Core.List.{List, [], _∷_, _++_}
 use mathlib.Core.Bool.{cond}
@@ -31,7 +31,7 @@ unfoldable pub without : ℕ → List ℕ → List ℕ
 without t [] = []
 without t (u ∷ us) = cond (eqb u t) us (u ∷ without t us)
 
--- Charge: "moves the timeslice to the back of the turn order"
+-- Charge: "moves the timeslice to the back of the turn order"; Rank: it "goes to the back of the turn order"
 unfoldable pub toBack : ℕ → List ℕ → List ℕ
 toBack t order = last t (without t order)
 
@@ -46,3 +46,10 @@ refilled t ss = setLeft t (sliceAt ss t .quantum) ss
 -- Remove: "Its own timeslice is struck out": `without` it in the turn order, and its slot is free
 unfoldable pub struck : ℕ → List Slice → List Slice
 struck t ss = set ss t freeSlice
+
+abbrev pub withPriority : ℕ → Slice → Slice
+withPriority priority x = record { owner = x .owner; priority = priority; quantum = x .quantum; left = x .left }
+
+-- Rank: "The timeslice takes that priority"
+unfoldable pub ranked : ℕ → ℕ → List Slice → List Slice
+ranked t priority ss = set ss t (withPriority priority (sliceAt ss t))

@@ -1,4 +1,4 @@
-// Document 01, "What belongs to the machine", and document 02, [2] and [3]: the records of threads and timeslices, and the events.
+// Document 01, "What belongs to the machine", and document 02, [2] to [4]: the records of threads and timeslices, and the events.
 // What they mean is defined in specs/.
 
 // A thread is a client or a server.
@@ -125,5 +125,9 @@ pub enum Event {
     },
     Remove {
         thread: u8,
+    },
+    Rank {
+        timeslice: u8,
+        priority: u8,
     },
 }

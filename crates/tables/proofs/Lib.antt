@@ -6,5 +6,6 @@ pub mod Mapping
 pub mod Above
 pub mod Shifts
 pub mod ReleaseLoop
+pub mod Detaching
 pub mod Searches
 pub mod Recodings

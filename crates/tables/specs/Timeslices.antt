@@ -1,4 +1,7 @@
 -- A stored timeslice has its place beside what document 01's rules call a slice.
+use Prim.Native.Nat.{ℕ}
+use mathlib.Core.List.{List}
+use lib.ListN.{getD, set}
 use Rattle.rules.specs.declared.Place.{Place}
 use Rattle.rules.specs.declared.Place.the-variants.{Queue}
 use Rattle.rules.specs.declared.Timeslice.{Timeslice}
@@ -18,3 +21,14 @@ placeOf x = x .place
 -- a stored timeslice at another place
 abbrev pub withPlace : Place → Timeslice → Timeslice
 withPlace p x = record { owner = x .owner; priority = x .priority; quantum = x .quantum; left = x .left; place = p }
+
+-- or with another priority
+abbrev pub withPriority : ℕ → Timeslice → Timeslice
+withPriority n x = record { owner = x .owner; priority = n; quantum = x .quantum; left = x .left; place = x .place }
+
+-- the table with one of them so
+unfoldable pub setPlace : ℕ → Place → List Timeslice → List Timeslice
+setPlace t p ts = set ts t (withPlace p (getD ts t freeTimeslice))
+
+unfoldable pub setPriority : ℕ → ℕ → List Timeslice → List Timeslice
+setPriority t n ts = set ts t (withPriority n (getD ts t freeTimeslice))

@@ -5,6 +5,7 @@ pub mod heights;
 pub mod lookup;
 pub mod numbers;
 pub mod order;
+pub mod rank;
 pub mod records;
 pub mod release;
 pub mod threads;

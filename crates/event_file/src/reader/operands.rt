@@ -1,6 +1,6 @@
 // What a record holds after its length byte: a function for each kind, on the operands alone.
 ghost use mathlib.Core.Path.{_≡_};
-ghost use Rattle.rules.specs.EventFile.{createFrom, giveFrom, oneByte, oneWord, noOperand, eventOf, bodyOf};
+ghost use Rattle.rules.specs.EventFile.{noOperand, oneByte, twoBytes, createWith, chargeWith, rankWith, giveFrom, eventOf, bodyOf};
 ghost use Rattle.rules.specs.declared.Event;
 ghost use Rattle.event_file.specs.Answers.{foundOf};
 use crate::reader::Found;
@@ -9,7 +9,7 @@ use rules::Event;
 use rules::Role;
 
 fn create(operands: &[u8]) -> Found
-    ensures { λ r. ⌜ r ≡ foundOf (createFrom (now (operands .entry))) ⌝ }
+    ensures { λ r. ⌜ r ≡ foundOf (twoBytes createWith (now (operands .entry))) ⌝ }
 {
     if operands.len() != 2 {
         return Found::Bad;
@@ -87,7 +87,7 @@ fn wake(operands: &[u8]) -> Found
 }
 
 fn charge(operands: &[u8]) -> Found
-    ensures { λ r. ⌜ r ≡ foundOf (oneWord Event.Charge (now (operands .entry))) ⌝ }
+    ensures { λ r. ⌜ r ≡ foundOf (twoBytes chargeWith (now (operands .entry))) ⌝ }
 {
     if operands.len() != 2 {
         return Found::Bad;
@@ -129,6 +129,18 @@ fn remove(operands: &[u8]) -> Found
     })
 }
 
+fn rank(operands: &[u8]) -> Found
+    ensures { λ r. ⌜ r ≡ foundOf (twoBytes rankWith (now (operands .entry))) ⌝ }
+{
+    if operands.len() != 2 {
+        return Found::Bad;
+    }
+    Found::Record(Event::Rank {
+        timeslice: operands[0],
+        priority: operands[1],
+    })
+}
+
 // The kinds of documents 01 and 02, one arm each.
 fn event_of(kind: u8, operands: &[u8]) -> Found
     ensures { λ r. ⌜ r ≡ foundOf (eventOf kind (now (operands .entry))) ⌝ }
@@ -144,6 +156,7 @@ fn event_of(kind: u8, operands: &[u8]) -> Found
         8 => abort(operands),
         9 => refill(operands),
         10 => remove(operands),
+        11 => rank(operands),
         _ => Found::Bad,
     }
 }

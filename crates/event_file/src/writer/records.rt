@@ -42,6 +42,10 @@ fn operand_count(event: Event) -> usize
         Event::Abort { thread: _ } => 1,
         Event::Refill { timeslice: _ } => 1,
         Event::Remove { thread: _ } => 1,
+        Event::Rank {
+            timeslice: _,
+            priority: _,
+        } => 2,
     }
 }
 
@@ -101,5 +105,9 @@ pub fn put_record(buffer: &mut [u8], at: usize, event: Event)
         Event::Abort { thread } => put3(buffer, at, 2, 8, thread),
         Event::Refill { timeslice } => put3(buffer, at, 2, 9, timeslice),
         Event::Remove { thread } => put3(buffer, at, 2, 10, thread),
+        Event::Rank {
+            timeslice,
+            priority,
+        } => put4(buffer, at, 3, 11, timeslice, priority),
     }
 }

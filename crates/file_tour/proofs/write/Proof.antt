@@ -10,7 +10,7 @@ abbrev Inv-loop : tie.InvT-loop
 Inv-loop buffer₀ filled₀ place₀ buffer filled place = length buffer ≡ length buffer₀
 
 abbrev μ-loop : tie.MeasureT-loop
-μ-loop buffer₀ filled₀ place₀ buffer filled place = 11 - place
+μ-loop buffer₀ filled₀ place₀ buffer filled place = 12 - place
 
 slice-aggregate-start-file : tie.Need-slice-aggregate-start-file Inv-loop μ-loop
 slice-aggregate-start-file c = search needs

@@ -120,9 +120,9 @@ module _ (s : State) (x : Mid s) (t : ℕ) (e : topmostAt inQueue s ≡ some t) 
   unspent Stalled a = refl
   unspent Spent a = clash true refl a
 
-  releasable : Releasable (behind t) set-aside
+  pub aside-releasable : Releasable (behind t) (withPlaces (set (s .places) t p) s)
   unfolding set-aside
-  releasable =
+  aside-releasable =
       retimed-releasable x (unchanged (x .shape .turns) t (top .listed)) p
       (put-listed set-aside t p (top .listed) (good-aside p aside good)
       (unspent p aside ∙ sym (ap isSpent queued) ∙ x .placed .spent t (top .listed)))
@@ -130,7 +130,7 @@ module _ (s : State) (x : Mid s) (t : ℕ) (e : topmostAt inQueue s ≡ some t) 
 
   pub park-mid : Mid (park t p s)
   unfolding park set-aside
-  park-mid = release-mid (behind t) set-aside releasable
+  park-mid = release-mid (behind t) set-aside aside-releasable
 
   pub park-forget : forget (park t p s) ≡ forget s
   unfolding park set-aside
@@ -146,7 +146,7 @@ module _ (s : State) (x : Mid s) (t : ℕ) (e : topmostAt inQueue s ≡ some t) 
 
   still : (u : ℕ) → member u (s .order) ≡ true → unparked (placeAt (park t p s .places) u) ≡ true → unparked (placeAt (s .places) u) ≡ true
   unfolding park set-aside
-  still u h k = by (same u t) (place-after (behind t) set-aside releasable u h)
+  still u h k = by (same u t) (place-after (behind t) set-aside aside-releasable u h)
     where
       by : Same u t → Moved (behind t) set-aside u → unparked (placeAt (s .places) u) ≡ true
       by (equal z _) m = ap unparked (ap (placeAt (s .places)) z ∙ queued)
@@ -155,7 +155,7 @@ module _ (s : State) (x : Mid s) (t : ℕ) (e : topmostAt inQueue s ≡ some t) 
 
   gone : unparked (placeAt (park t p s .places) t) ≡ false
   unfolding park set-aside
-  gone = by (place-after (behind t) set-aside releasable t (top .listed))
+  gone = by (place-after (behind t) set-aside aside-releasable t (top .listed))
     where
       not-behind : (r : Place) → unparked r ≡ false → behind t r ≡ true → ⊥
       not-behind Queue a k = clash true refl a

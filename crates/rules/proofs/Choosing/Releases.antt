@@ -7,12 +7,12 @@ use mathlib.Core.Option.{Option, none, some}
 use lib.ListN.{length, set, length-set}
 use lib.Seq.{getD-set-same, getD-set-other}
 use lib.Dec.{eqb}
-use borrow.Author.Tests.{eq-eqb}
+use borrow.Author.Tests.{eqb-true, eq-eqb}
 use Rattle.rules.specs.declared.Place.{Place}
 use Rattle.rules.specs.declared.Place.the-variants.{Queue, Behind, On, Stalled, Spent}
 use Rattle.rules.specs.Tests.{member, distinct}
 use Rattle.rules.specs.State.{State, forget, limit, freePlace, leftAt, placeAt, withPlaces}
-use Rattle.rules.specs.Release.{isSpent, inQueue, topmostAt, releasedPlace, releasedPlaces, releaseTo, release}
+use Rattle.rules.specs.Release.{isSpent, inQueue, behind, topmostAt, releasedPlace, releasedPlaces, releaseTo, release}
 use Rattle.rules.proofs.Basics.Views.{Two, yes-true, no-false, two, clash, is-false, Same, equal, different, same}
 use Rattle.rules.proofs.Basics.Members.{Listed, here, there, listed, not-listed, member-here, member-there, distinct-head}
 use Rattle.rules.proofs.Basics.Members.{distinct-tail}
@@ -185,6 +185,19 @@ release-placed at s x = by (released at s)
     by (nobody e r) = rw r (none-placed at s x e)
     by (joins q e r) = rw r (after-placed at s x q (top-some (s .slices) (λ t. at (placeAt (s .places) t)) (s .order) q e))
 
+-- where everybody is well placed, every set can be released that has no Queue and no Spent in it
+pub mid-releasable : {s : State} → Mid s → (at : Place → Bool) → at Queue ≡ false → at Spent ≡ false → Releasable at s
+mid-releasable x at queue spared =
+    record {
+      shape = x .shape;
+      full = x .placed .full;
+      queue = queue;
+      spared = spared;
+      each = λ t h. kept (x .placed .good t h);
+      spent = x .placed .spent;
+      free = x .placed .free;
+    }
+
 -- a release hands the choice what it wants
 pub release-mid : (at : Place → Bool) (s : State) → Releasable at s → Mid (release at s)
 release-mid at s x = record { shape = rw (forget-release at s) (x .shape); placed = release-placed at s x }
@@ -231,3 +244,34 @@ place-after at s x t h = by (released at s) (two (at (placeAt (s .places) t)))
     by (joins q f r) (yes-true k) = chosen k
     by (joins q f r) (no-false k) =
         unmoved (rw r (moved at s x q (top-some (s .slices) (λ u. at (placeAt (s .places) u)) (s .order) q f) t h ∙ rw k))
+
+-- who stands Behind another after a release: it stood there and was not selected, or both were
+pub data Follows (at : Place → Bool) (s : State) (u q : ℕ) : Type 0 where
+  stood : placeAt (s .places) u ≡ Behind q → at (placeAt (s .places) u) ≡ false → Follows at s u q
+  sent : at (placeAt (s .places) u) ≡ true → at (placeAt (s .places) q) ≡ true → member q (s .order) ≡ true → (u ≡ q → ⊥) → Follows at s u q
+
+pub is-behind : {p : Place} (q : ℕ) → p ≡ Behind q → behind q p ≡ true
+is-behind q e = ap (behind q) e ∙ eq-eqb q q refl
+
+pub follows : (at : Place → Bool) (s : State) → Releasable at s → (u : ℕ) → member u (s .order) ≡ true → (q : ℕ)
+    → placeAt (release at s .places) u ≡ Behind q → Follows at s u q
+follows at s x u h q e = by (released at s)
+  where
+    moved-by : (v : ℕ) → Top (s .slices) (λ t. at (placeAt (s .places) t)) (s .order) v → Two (at (placeAt (s .places) u)) → Same u v
+        → releasedPlace at v u (placeAt (s .places) u) ≡ Behind q → Follows at s u q
+    moved-by v top (yes-true k) (equal _ z) f = clash true refl (ap inQueue (rw (k, z) at f))
+    moved-by v top (yes-true k) (different n z) f =
+        let is-q : v ≡ q = eqb-true v q (is-behind q (rw (k, z) at f)) in
+        sent k (rw is-q at (top .taken)) (rw is-q at (top .listed)) (λ w. n (w ∙ sym is-q))
+    moved-by v top (no-false k) _ f = stood (rw k at f) k
+
+    by : Released at s → Follows at s u q
+    by (nobody f r) = stood (rw r at e) (top-none (s .slices) (λ t. at (placeAt (s .places) t)) (s .order) f u h)
+    by (joins v f r) =
+        let top = top-some (s .slices) (λ t. at (placeAt (s .places) t)) (s .order) v f in
+        moved-by v top (two (at (placeAt (s .places) u))) (same u v) (sym (moved at s x v top u h) ∙ (rw r at e))
+
+-- timeslice t stands alone: nobody stands Behind it, and it stands Behind nobody
+pub record Alone (s : State) (t : ℕ) : Type 0 where
+  pub leads-none : (u : ℕ) → member u (s .order) ≡ true → placeAt (s .places) u ≡ Behind t → ⊥
+  pub follows-none : (q : ℕ) → placeAt (s .places) t ≡ Behind q → ⊥

@@ -11,6 +11,7 @@ use Rattle.rules.specs.declared.Place.{Place}
 use Rattle.rules.specs.declared.Place.the-variants.{Queue, Behind, On, Stalled, Spent}
 use Rattle.rules.specs.declared.Thread.{Thread}
 use Rattle.rules.specs.declared.Chain.{Chain}
+use Rattle.rules.specs.Tests.{member}
 use Rattle.rules.specs.State.{State, Plain, forget, holdAt, liveThreads, placeAt, withThreads}
 use Rattle.rules.specs.Walk.{linkOf, noLinks, donated, helped, ended}
 use Rattle.rules.specs.Threads.{donate}
@@ -90,12 +91,12 @@ module _ (s : State) (x : Mid s) (t : ℕ) (e : topmostAt inQueue s ≡ some t) 
       by y m w (equal q f) = freed f
       by y m w (different o f) = stay-there (reframed x (pair .update)) w (pair .others m (other y m w) o) (avoids ts helper-ends o)
 
-  releasable : Releasable (onThread n) (withThreads ts′ s)
-  releasable = change-releasable change
+  pub retry-releasable : Releasable (onThread n) (withThreads (donate (r .chain .helper) n (s .threads)) s)
+  retry-releasable = change-releasable change
 
   pub retry-mid : Mid (retry (ended n (r .chain)) s)
   unfolding retry
-  retry-mid = release-mid (onThread n) (withThreads ts′ s) releasable
+  retry-mid = release-mid (onThread n) (withThreads ts′ s) retry-releasable
 
   pub retry-forget : forget (retry (ended n (r .chain)) s) ≡ forget (withThreads ts′ s)
   unfolding retry
@@ -133,17 +134,18 @@ module _ (s : State) (x : Mid s) (t : ℕ) (e : topmostAt inQueue s ≡ some t) 
   on-is Stalled k = clash false k refl
   on-is Spent k = clash false k refl
 
-  joined-runs : (q : ℕ) → topmostAt (onThread n) (withThreads ts′ s) ≡ some q → RunsAt ts′ (owner s q) n 0
-  joined-runs q j = by (subst (λ (p : Place). Good s q p) (on-is (placeAt (s .places) q) (top .taken)) (x .placed .good q (top .listed)))
+  pub own-of : (q : ℕ) → member q (s .order) ≡ true → onThread n (placeAt (s .places) q) ≡ true → owner s q ≡ n
+  own-of q listed k = by (subst (λ (p : Place). Good s q p) (on-is (placeAt (s .places) q) k) (x .placed .good q listed))
     where
-      top : Top (s .slices) (λ u. onThread n (placeAt (s .places) u)) (s .order) q
-      top = top-some (s .slices) (λ u. onThread n (placeAt (s .places) u)) (s .order) q j
-
-      by : Waits ts (owner s q) n → RunsAt ts′ (owner s q) n 0
+      by : Waits ts (owner s q) n → owner s q ≡ n
       by (blocked p b) = let i = r .idle in let z : _≡_ {A = ℕ} 0 1 = cc in absurd (omega arith)
-      by (idle o i) =
-          subst (λ (k : ℕ). RunsAt ts′ k n 0) (sym o)
-          (record { chain = noLinks; ends = ends-here ts′ n (ap linkOf (pair .at-server)); ready = pair .at-server; counted = refl })
+      by (idle o i) = o
+
+  joined-runs : (q : ℕ) → topmostAt (onThread n) (withThreads ts′ s) ≡ some q → RunsAt ts′ (owner s q) n 0
+  joined-runs q j =
+      let top = top-some (s .slices) (λ u. onThread n (placeAt (s .places) u)) (s .order) q j in
+      subst (λ (k : ℕ). RunsAt ts′ k n 0) (sym (own-of q (top .listed) (top .taken)))
+      (record { chain = noLinks; ends = ends-here ts′ n (ap linkOf (pair .at-server)); ready = pair .at-server; counted = refl })
 
   -- the next look: the topmost in Queue runs
   pub record Next (s′ : State) : Type 0 where
@@ -178,7 +180,7 @@ module _ (s : State) (x : Mid s) (t : ℕ) (e : topmostAt inQueue s ≡ some t) 
 
       t-queued : inQueue (placeAt (after .places) t) ≡ true
       t-queued =
-          is-queued (queue-kept (onThread n) (withThreads ts′ s) releasable t (top .listed) (top-queued s t e))
+          is-queued (queue-kept (onThread n) (withThreads ts′ s) retry-releasable t (top .listed) (top-queued s t e))
 
       found : (q : ℕ) → topmostAt inQueue after ≡ some q → Top (s .slices) (λ u. inQueue (placeAt (after .places) u)) (s .order) q
       found q f =
@@ -199,7 +201,8 @@ module _ (s : State) (x : Mid s) (t : ℕ) (e : topmostAt inQueue s ≡ some t) 
           clash (inQueue (placeAt (after .places) t)) t-queued
           (top-none (s .slices) (λ u. inQueue (placeAt (after .places) u)) (s .order)
           (sym (topmost-release (onThread n) (withThreads ts′ s)) ∙ f) t (top .listed))
-      by (some q) f = one q f (same q t) (queue-after (onThread n) (withThreads ts′ s) releasable q (found q f .listed) (found q f .taken))
+      by (some q) f =
+          one q f (same q t) (queue-after (onThread n) (withThreads ts′ s) retry-releasable q (found q f .listed) (found q f .taken))
 
   pub retry-live : liveThreads (donate (r .chain .helper) n (s .threads)) ≡ liveThreads (s .threads)
   retry-live = pair .update .count

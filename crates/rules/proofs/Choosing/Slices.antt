@@ -1,6 +1,6 @@
 -- A change of one timeslice, in the table, in the turn order and of its place, leaves every timeslice well placed or released.
--- Give, Charge, Refill, Remove and a look that puts one aside are such changes: they have to show what holds of that timeslice now, and
--- what becomes of its followers.
+-- Give, Charge, Refill, Remove, Rank and a look that puts one aside are such changes: they have to show what holds of that timeslice now,
+-- and what becomes of its followers.
 use Prim.Native.Nat.{ℕ, _<_}
 use mathlib.Core.Path.{_≡_, refl, sym, ap, _∙_, subst}
 use mathlib.Core.List.{List}
@@ -111,8 +111,9 @@ pub put-listed : (s′ : State) (t : ℕ) (p : Place) → member t (s′ .order)
     → isSpent p ≡ eqb (leftAt (s′ .slices) t) 0 → Put s′ t p
 put-listed s′ t p h g e = record { good = λ _. g; spent = λ _. e; free = λ n. clash (member t (s′ .order)) h n }
 
--- what happens to the followers of t: they are released, or t is in Queue and still stands above them
+-- what happens to the followers of t: there are none, or they are released, or t is in Queue and still stands above them
 pub data Followers (at : Place → Bool) (s : State) (ss′ : List Slice) (order′ : List ℕ) (t : ℕ) (p : Place) : Type 0 where
+  none : ((u : ℕ) → member u (s .order) ≡ true → placeAt (s .places) u ≡ Behind t → ⊥) → Followers at s ss′ order′ t p
   freed : at (Behind t) ≡ true → Followers at s ss′ order′ t p
   stay : member t order′ ≡ true → p ≡ Queue → ((u : ℕ) → Led s u t → standsAbove ss′ order′ t u ≡ true)
       → Followers at s ss′ order′ t p
@@ -127,10 +128,11 @@ module _ {at : Place → Bool} {s : State} {ss′ : List Slice} {order′ : List
   elsewhere u n = getD-set-other (s .places) t u p freePlace n
 
   -- a follower of t
-  follower : (u : ℕ) → (u ≡ t → ⊥) → placeAt (s .places) u ≡ Behind t → Led s u t → Followers at s ss′ order′ t p
-      → Ready at (retimed ss′ order′ t p s) u
-  follower u n e g (freed k) = selected (rw (elsewhere u n, e) k)
-  follower u n e g (stay h q a) = kept (rw (elsewhere u n, e) (record { listed = h; queued = place-now ∙ q; above = a u g }))
+  follower : (u : ℕ) → (u ≡ t → ⊥) → member u (s .order) ≡ true → placeAt (s .places) u ≡ Behind t → Led s u t
+      → Followers at s ss′ order′ t p → Ready at (retimed ss′ order′ t p s) u
+  follower u n l e g (none f) = absurd (f u l e)
+  follower u n l e g (freed k) = selected (rw (elsewhere u n, e) k)
+  follower u n l e g (stay h q a) = kept (rw (elsewhere u n, e) (record { listed = h; queued = place-now ∙ q; above = a u g }))
 
   -- a follower of another
   behind-other : (u q : ℕ) → (u ≡ t → ⊥) → (q ≡ t → ⊥) → Led s u q → Led (retimed ss′ order′ t p s) u q
@@ -138,18 +140,19 @@ module _ {at : Place → Bool} {s : State} {ss′ : List Slice} {order′ : List
       record { listed = r .listed q nq ∙ g .listed; queued = elsewhere q nq ∙ g .queued; above = above-kept r q u nq nu ∙ g .above }
 
   -- everybody other than t is released or well placed
-  ready : (u : ℕ) → (u ≡ t → ⊥) → (o : Place) → placeAt (s .places) u ≡ o → Good s u o → Ready at (retimed ss′ order′ t p s) u
-  ready u n Queue e g = kept (rw (elsewhere u n, e) tt)
-  ready u n (Behind q) e g = by (same q t)
+  ready : (u : ℕ) → (u ≡ t → ⊥) → member u (s .order) ≡ true → (o : Place) → placeAt (s .places) u ≡ o → Good s u o
+      → Ready at (retimed ss′ order′ t p s) u
+  ready u n l Queue e g = kept (rw (elsewhere u n, e) tt)
+  ready u n l (Behind q) e g = by (same q t)
     where
       by : Same q t → Ready at (retimed ss′ order′ t p s) u
-      by (equal z _) = follower u n (e ∙ ap Behind z) (subst (λ (k : ℕ). Led s u k) z g) f
+      by (equal z _) = follower u n l (e ∙ ap Behind z) (subst (λ (k : ℕ). Led s u k) z g) f
       by (different d _) = kept (rw (elsewhere u n, e) (behind-other u q n d g))
-  ready u n (On m) e g =
+  ready u n l (On m) e g =
       kept (rw (elsewhere u n, e) (subst (λ (k : ℕ). Waits (s .threads) k m) (sym (owner-kept r u n)) g))
-  ready u n Stalled e g =
+  ready u n l Stalled e g =
       kept (rw (elsewhere u n, e) (subst (λ (k : ℕ). Stalls (s .threads) k) (sym (owner-kept r u n)) g))
-  ready u n Spent e g = kept (rw (elsewhere u n, e) tt)
+  ready u n l Spent e g = kept (rw (elsewhere u n, e) tt)
 
   pub retimed-releasable : at Queue ≡ false → at Spent ≡ false → Releasable at (retimed ss′ order′ t p s)
   retimed-releasable q z =
@@ -160,7 +163,7 @@ module _ {at : Place → Bool} {s : State} {ss′ : List Slice} {order′ : List
         spared = z;
         each =
             each-now r (λ u. Ready at (retimed ss′ order′ t p s) u) (λ h. kept (rw place-now (put .good h)))
-            (λ u n h. ready u n (placeAt (s .places) u) refl (x .placed .good u h));
+            (λ u n h. ready u n h (placeAt (s .places) u) refl (x .placed .good u h));
         spent =
             each-now r (λ u. isSpent (placeAt (set (s .places) t p) u) ≡ eqb (leftAt ss′ u) 0)
             (λ h. ap isSpent place-now ∙ put .spent h)

@@ -20,13 +20,14 @@ use Rattle.rules.specs.Events.{charge, chargeBy, depletes, spends}
 use Rattle.rules.specs.Plain.{update, plainCharge, plainTimeslices}
 use Rattle.rules.proofs.Basics.Views.{Two, yes-true, no-false, two, clash, or-false-right}
 use Rattle.rules.proofs.Basics.Accepting.{passes}
-use Rattle.rules.proofs.Order.Orders.{is-top, above-back, member-back, distinct-back, length-back}
+use Rattle.rules.proofs.Order.Orders.{is-top, member-back, length-back}
 use Rattle.rules.proofs.Soundness.Places.{runs-on, Mid, Sound}
 use Rattle.rules.proofs.Choosing.Releases.{release-mid, forget-release}
 use Rattle.rules.proofs.Choosing.Tops.{queue-top, top-queued}
 use Rattle.rules.proofs.Choosing.Slices.{retimed, put-listed, freed, stay, retimed-releasable, retimed-mid, stays-put}
 use Rattle.rules.proofs.Events.Hands.{Handed, same-limit, Active, active}
-use Rattle.rules.proofs.Events.Lefts.{left-is, left-owner, left-above, in-table, range, left-retimed, left-changed}
+use Rattle.rules.proofs.Events.Rewrites.{in-table, range}
+use Rattle.rules.proofs.Events.Lefts.{left-is, left-owner, left-above, left-changed, left-back}
 
 -- the current timeslice: listed and in Queue
 module _ {s : State} (x : Sound s) {n t count : ℕ} (a : Active s n t count) where
@@ -76,11 +77,7 @@ module _ {s : State} (x : Sound s) {n t count : ℕ} (a : Active s n t count) wh
       let ss = s .slices in
       let order = s .order in
       let k = leftAt ss t - units in
-      let r =
-      left-retimed (x .mid) t (a .listed) k (omega (arith, range (x .mid) t (a .listed) .most)) (toBack t order)
-      (distinct-back t order (x .mid .shape .turns .once))
-      (λ u. member-back t u order (a .listed))
-      (above-back ss t order) in
+      let r = left-back (x .mid) t (a .listed) k (omega (arith, range (x .mid) t (a .listed) .most)) in
       let left = left-is ss t k inside in
       let none-left : eqb (leftAt (setLeft t k ss) t) 0 ≡ true = eq-eqb (leftAt (setLeft t k ss) t) 0 (omega (arith, left)) in
       let after = retimed (setLeft t k ss) (toBack t order) t Spent s in

@@ -19,7 +19,8 @@ use Rattle.rules.proofs.Basics.Accepting.{passes}
 use Rattle.rules.proofs.Soundness.Places.{Sound}
 use Rattle.rules.proofs.Events.Hands.{Handed}
 use Rattle.rules.proofs.Events.Joining.{joins-handed}
-use Rattle.rules.proofs.Events.Lefts.{left-is, in-table, range, left-changed}
+use Rattle.rules.proofs.Events.Rewrites.{in-table, range}
+use Rattle.rules.proofs.Events.Lefts.{left-is, left-changed}
 
 pub refill-handed : (s : State) → Sound s → (t : ℕ) → refusal (Refill t) (forget s) ≡ 0
     → Handed s (refill t s) (update (Refill t) (forget s))

@@ -3,14 +3,14 @@ use Prim.Native.Nat.{ℕ}
 use mathlib.Core.Path.{_≡_, refl}
 use mathlib.Core.List.{List, [], _∷_}
 use mathlib.Core.Bool.{cond}
-use mathlib.Core.Option.{none, some}
+use mathlib.Core.Option.{Option, none, some}
 use native.Mathlib.Omega.{arith}
 use lib.ListN.{length, getD}
 use lib.Dec.{eqb}
 use borrow.Author.Tests.{ne-eqb}
 use Rattle.rules.specs.declared.Event.{Event}
 use Rattle.rules.specs.declared.Event.the-variants.{Give}
-use Rattle.rules.specs.EventFile.{wordOf, noOperand, oneByte, oneWord, createWith, createFrom, giveFrom}
+use Rattle.rules.specs.EventFile.{wordOf, noOperand, oneByte, twoBytes, giveFrom}
 
 pub noOperand-is : (e : Event) (l : List ℕ) → noOperand e l ≡ cond (eqb (length l) 0) (some e) none
 noOperand-is e [] = refl
@@ -21,18 +21,12 @@ oneByte-is f [] = refl
 oneByte-is f (a ∷ []) = refl
 oneByte-is f (a ∷ b ∷ rest) = rw (ne-eqb (length (a ∷ b ∷ rest)) 1 (omega arith))
 
-pub oneWord-is :
-    (f : ℕ → Event) (l : List ℕ) → oneWord f l ≡ cond (eqb (length l) 2) (some (f (wordOf (getD l 0 0) (getD l 1 0)))) none
-oneWord-is f [] = refl
-oneWord-is f (a ∷ []) = refl
-oneWord-is f (a ∷ b ∷ []) = refl
-oneWord-is f (a ∷ b ∷ c ∷ rest) = rw (ne-eqb (length (a ∷ b ∷ c ∷ rest)) 2 (omega arith))
-
-pub createFrom-is : (l : List ℕ) → createFrom l ≡ cond (eqb (length l) 2) (createWith (getD l 0 0) (getD l 1 0)) none
-createFrom-is [] = refl
-createFrom-is (a ∷ []) = refl
-createFrom-is (a ∷ b ∷ []) = refl
-createFrom-is (a ∷ b ∷ c ∷ rest) = rw (ne-eqb (length (a ∷ b ∷ c ∷ rest)) 2 (omega arith))
+pub twoBytes-is :
+    (f : ℕ → ℕ → Option Event) (l : List ℕ) → twoBytes f l ≡ cond (eqb (length l) 2) (f (getD l 0 0) (getD l 1 0)) none
+twoBytes-is f [] = refl
+twoBytes-is f (a ∷ []) = refl
+twoBytes-is f (a ∷ b ∷ []) = refl
+twoBytes-is f (a ∷ b ∷ c ∷ rest) = rw (ne-eqb (length (a ∷ b ∷ c ∷ rest)) 2 (omega arith))
 
 pub giveFrom-is :
     (l : List ℕ) →

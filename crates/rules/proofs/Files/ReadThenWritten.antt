@@ -10,11 +10,11 @@ use lib.Seq.{length-take-le, getD-drop}
 use lib.Dec.{leb, eqb}
 use borrow.Author.Tests.{le-leb, leb-true, eqb-true}
 use Rattle.rules.specs.declared.Event.{Event}
-use Rattle.rules.specs.declared.Event.the-variants.{Call, Reply, Block, Wake, Charge, Abort, Refill, Remove}
+use Rattle.rules.specs.declared.Event.the-variants.{Call, Reply, Block, Wake, Abort, Refill, Remove}
 use Rattle.rules.specs.Tests.{all}
 use Rattle.rules.specs.EventFile.{Bytes, wordOf, highByte, lowByte, kindOf, operandsOf, recordOf, recordsOf, fourBytes, fileOf}
-use Rattle.rules.specs.EventFile.{noOperand, oneByte, oneWord, createFrom, giveFrom, eventOf, bodyOf, recordAt, byte, fits, allFit}
-use Rattle.rules.specs.EventFile.{joined, eventsAfter, recordsIn}
+use Rattle.rules.specs.EventFile.{noOperand, oneByte, twoBytes, createWith, chargeWith, rankWith, giveFrom, eventOf, bodyOf}
+use Rattle.rules.specs.EventFile.{recordAt, byte, fits, allFit, joined, eventsAfter, recordsIn}
 use Rattle.rules.proofs.Basics.Views.{Two, yes-true, no-false, two, and-true-both}
 use Rattle.rules.proofs.Basics.Members.{all-cons}
 use Rattle.rules.proofs.Files.Reading.{eventsAfter-cons, some-joined}
@@ -49,20 +49,21 @@ oneByte-good k f h [] = tt
 oneByte-good k f h (a ∷ []) = h a
 oneByte-good k f h (a ∷ b ∷ rest) = tt
 
-charge-good : (l : List ℕ) → Bytes l → Good (7 ∷ l) (oneWord Charge l)
-charge-good [] bs = tt
-charge-good (a ∷ []) bs = tt
-charge-good (a ∷ b ∷ []) bs =
-    ap₂ (λ (x y : ℕ). 7 ∷ x ∷ y ∷ []) (sym (high-back a b (bs 1))) (sym (low-back a b (bs 1)))
-charge-good (a ∷ b ∷ c ∷ rest) bs = tt
+twoBytes-good :
+    (k : ℕ) (f : ℕ → ℕ → Option Event) → ((a b : ℕ) → b < 256 → Good (k ∷ a ∷ b ∷ []) (f a b)) →
+    (l : List ℕ) → Bytes l → Good (k ∷ l) (twoBytes f l)
+twoBytes-good k f h [] bs = tt
+twoBytes-good k f h (a ∷ []) bs = tt
+twoBytes-good k f h (a ∷ b ∷ []) bs = h a b (bs 1)
+twoBytes-good k f h (a ∷ b ∷ c ∷ rest) bs = tt
 
-create-good : (l : List ℕ) → Good (1 ∷ l) (createFrom l)
-create-good [] = tt
-create-good (a ∷ []) = tt
-create-good (a ∷ b ∷ []) =
+charge-good : (a b : ℕ) → b < 256 → Good (7 ∷ a ∷ b ∷ []) (chargeWith a b)
+charge-good a b h = ap₂ (λ (x y : ℕ). 7 ∷ x ∷ y ∷ []) (sym (high-back a b h)) (sym (low-back a b h))
+
+create-good : (a b : ℕ) → Good (1 ∷ a ∷ b ∷ []) (createWith a b)
+create-good a b =
     either (1 ∷ a ∷ b ∷ []) (eqb b 0) _ _ (λ zero-role. ap (λ (x : ℕ). 1 ∷ a ∷ x ∷ []) (eqb-true b 0 zero-role))
     (either (1 ∷ a ∷ b ∷ []) (eqb b 1) _ _ (λ one-role. ap (λ (x : ℕ). 1 ∷ a ∷ x ∷ []) (eqb-true b 1 one-role)) tt)
-create-good (a ∷ b ∷ c ∷ rest) = tt
 
 give-good : (l : List ℕ) → Bytes l → Good (2 ∷ l) (giveFrom l)
 give-good [] bs = tt
@@ -77,16 +78,17 @@ give-good (a ∷ b ∷ c ∷ d ∷ e ∷ f ∷ rest) bs = tt
 -- the kinds, one line each
 kind-good : (kind : ℕ) (l : List ℕ) → Bytes l → Good (kind ∷ l) (eventOf kind l)
 kind-good kind l bs =
-    is 1 (createFrom l) _ (create-good l)
+    is 1 (twoBytes createWith l) _ (twoBytes-good 1 createWith (λ a b _. create-good a b) l bs)
     (is 2 (giveFrom l) _ (give-good l bs)
     (is 3 (oneByte Call l) _ (oneByte-good 3 Call (λ a. refl) l)
     (is 4 (noOperand Reply l) _ (noOperand-good 4 Reply refl l)
     (is 5 (noOperand Block l) _ (noOperand-good 5 Block refl l)
     (is 6 (oneByte Wake l) _ (oneByte-good 6 Wake (λ a. refl) l)
-    (is 7 (oneWord Charge l) _ (charge-good l bs)
+    (is 7 (twoBytes chargeWith l) _ (twoBytes-good 7 chargeWith charge-good l bs)
     (is 8 (oneByte Abort l) _ (oneByte-good 8 Abort (λ a. refl) l)
     (is 9 (oneByte Refill l) _ (oneByte-good 9 Refill (λ a. refl) l)
-    (is 10 (oneByte Remove l) none (oneByte-good 10 Remove (λ a. refl) l) tt)))))))))
+    (is 10 (oneByte Remove l) _ (oneByte-good 10 Remove (λ a. refl) l)
+    (is 11 (twoBytes rankWith l) none (twoBytes-good 11 rankWith (λ a b _. refl) l bs) tt))))))))))
   where
     is : (k : ℕ) (x y : Option Event) → Good (k ∷ l) x → Good (kind ∷ l) y → Good (kind ∷ l) (cond (eqb kind k) x y)
     is k x y f g = either (kind ∷ l) (eqb kind k) x y (λ e. subst⁻¹ (λ (n : ℕ). Good (n ∷ l) x) (eqb-true kind k e) f) g

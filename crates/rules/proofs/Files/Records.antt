@@ -7,9 +7,9 @@ use native.Mathlib.Omega.{arith}
 use lib.ListN.{length, length-append}
 use borrow.Author.Tests.{leb-true}
 use Rattle.rules.specs.declared.Event.{Event}
-use Rattle.rules.specs.declared.Event.the-variants.{Give}
+use Rattle.rules.specs.declared.Event.the-variants.{Give, Rank}
 use Rattle.rules.specs.EventFile.{highByte, recordOf, recordsOf, byte, fits, allFit}
-use Rattle.rules.specs.Lists.{GiveRanged, AllRanged}
+use Rattle.rules.specs.Lists.{Ranged, AllRanged}
 use Rattle.rules.proofs.Basics.Views.{and-true-left, and-true-right}
 use Rattle.rules.proofs.Basics.Members.{all-head, all-tail}
 
@@ -33,11 +33,19 @@ give-fits t n priority quantum f =
     let from-quantum = all-tail byte priority _ from-priority in
     (leb-true priority 255 (all-head byte priority _ from-priority), word-fits quantum (all-head byte (highByte quantum) _ from-quantum))
 
--- so of events whose operands fit, every give is in range
-pub give-ranged : (e : Event) → fits e ≡ true → GiveRanged e
-give-ranged e f t n priority quantum is = give-fits t n priority quantum (sym (ap fits is) ∙ f)
+-- and of a Rank that does
+rank-fits : (t priority : ℕ) → fits (Rank t priority) ≡ true → priority ≤ 255
+rank-fits t priority f = leb-true priority 255 (all-head byte priority _ (all-tail byte t _ f))
+
+-- so events whose operands fit are in range
+ranged : (e : Event) → fits e ≡ true → Ranged e
+ranged e f =
+    record {
+      give = λ t n priority quantum is. give-fits t n priority quantum (sym (ap fits is) ∙ f);
+      rank = λ t priority is. rank-fits t priority (sym (ap fits is) ∙ f);
+    }
 
 pub all-ranged : (es : List Event) → allFit es ≡ true → AllRanged es
 unfolding allFit
 all-ranged [] f = tt
-all-ranged (e ∷ es) f = (give-ranged e (and-true-left (fits e) (allFit es) f), all-ranged es (and-true-right (fits e) (allFit es) f))
+all-ranged (e ∷ es) f = (ranged e (and-true-left (fits e) (allFit es) f), all-ranged es (and-true-right (fits e) (allFit es) f))

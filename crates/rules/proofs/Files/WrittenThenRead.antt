@@ -9,7 +9,7 @@ use lib.Seq.{take-append-seam, drop-append-seam}
 use borrow.Author.Tests.{le-leb}
 use Rattle.rules.specs.declared.Role.the-variants.{Client, Server}
 use Rattle.rules.specs.declared.Event.{Event}
-use Rattle.rules.specs.declared.Event.the-variants.{Create, Give, Call, Reply, Block, Wake, Charge, Abort, Refill, Remove}
+use Rattle.rules.specs.declared.Event.the-variants.{Create, Give, Call, Reply, Block, Wake, Charge, Abort, Refill, Remove, Rank}
 use Rattle.rules.specs.EventFile.{wordOf, highByte, lowByte, kindOf, operandsOf, recordOf, recordsOf, fourBytes, fileOf}
 use Rattle.rules.specs.EventFile.{bodyOf, recordAt, joined, eventsAfter, lengthField, recordsIn, orNone, fileRefusal, eventsOf}
 use Rattle.rules.proofs.Files.Reading.{eventsAfter-cons}
@@ -36,6 +36,7 @@ body-back (Charge units) = ap (λ (u : ℕ). some (Charge u)) (word-back units)
 body-back (Abort n) = refl
 body-back (Refill t) = refl
 body-back (Remove n) = refl
+body-back (Rank t priority) = refl
 
 -- whatever follows them
 within : (body rest : List ℕ) → recordAt (length body ∷ (body ++ rest)) ≡ bodyOf body

@@ -6,9 +6,9 @@ use mathlib.Core.List.{List, [], _∷_}
 use mathlib.Core.Bool.{Bool, true, false, cond, _&&_, _||_}
 use mathlib.Core.Option.{Option, none, some}
 use native.Mathlib.Omega.{arith}
-use lib.Dec.{ltb, eqb, leb·suc-suc}
+use lib.Dec.{leb, ltb, eqb, leb·suc-suc}
 use lib.ListN.{length, length-append}
-use borrow.Author.Tests.{ltb-true, ltb-false, lt-ltb, le-ltb, eqb-true, eq-eqb, ne-eqb}
+use borrow.Author.Tests.{ltb-true, ltb-false, lt-ltb, le-ltb, le-leb, lt-leb, eqb-true, eq-eqb, ne-eqb}
 use Rattle.rules.specs.Tests.{member, distinct}
 use Rattle.rules.specs.State.{Slice, priorityAt}
 use Rattle.rules.specs.Order.{earlier, standsAbove, upper, topmost}
@@ -405,3 +405,31 @@ pub above-back : (ss : List Slice) (t : ℕ) (order : List ℕ) (a b : ℕ) → 
 unfolding toBack
 above-back ss t order a b na nb =
     above-last ss t (without t order) a b na nb ∙ above-without ss t order a b na nb
+
+-- whoever is listed besides is earlier than the last
+earlier-last-one : (t u : ℕ) (order : List ℕ) → member t order ≡ false → member u order ≡ true → earlier (last t order) u t ≡ true
+unfolding last earlier
+earlier-last-one t u [] n h = clash (member u []) h (not-listed u)
+earlier-last-one t u (x ∷ xs) n h = by (same x u) (λ d. earlier-last-one t u xs (member-none t x xs n) (member-tail u x xs d h))
+  where
+    other : eqb x t ≡ false
+    other = ne-eqb x t (λ e. clash (member t (x ∷ xs)) (member-here t x xs (sym e)) n)
+
+    by : Same x u → ((x ≡ u → ⊥) → earlier (last t xs) u t ≡ true)
+        → cond (eqb x t) false (cond (eqb x u) true (earlier (last t xs) u t)) ≡ true
+    by (equal _ p) later = rw (other, p)
+    by (different d p) later = rw (other, p) (later d)
+
+-- so above the one at the back stands whoever has no lower priority
+no-lower-first : (low high : ℕ) → Two (ltb low high) → Same high low → (ltb low high || eqb high low && true) ≡ leb low high
+no-lower-first low high (yes-true a) _ = rw a (sym (le-leb low high (omega (arith, ltb-true low high a))))
+no-lower-first low high (no-false a) (equal e b) = rw (a, b) (sym (le-leb low high (omega arith)))
+no-lower-first low high (no-false a) (different n b) = rw (a, b) (sym (lt-leb low high (omega (arith, ltb-false low high a, n))))
+
+pub above-last-one : (ss : List Slice) (t u : ℕ) (order : List ℕ) → distinct order ≡ true → member u order ≡ true → (u ≡ t → ⊥)
+    → standsAbove ss (toBack t order) u t ≡ leb (priorityAt ss t) (priorityAt ss u)
+unfolding standsAbove toBack
+above-last-one ss t u order d h n =
+    let first = earlier-last-one t u (without t order) (member-without t order d) (member-without-other t u order n ∙ h) in
+    rw first (no-lower-first (priorityAt ss t) (priorityAt ss u) (two (ltb (priorityAt ss t) (priorityAt ss u)))
+    (same (priorityAt ss u) (priorityAt ss t)))

@@ -16,7 +16,7 @@ use Rattle.rules.specs.Tests.{member, all, below}
 use Rattle.rules.specs.State.{State, forget, limit, freePlace, ownerAt, leftAt, placeAt, liveAt}
 use Rattle.rules.specs.Order.{standsAbove}
 use Rattle.rules.specs.Walk.{chainOf, verdict}
-use Rattle.rules.specs.Release.{isSpent, inQueue, topmostAt}
+use Rattle.rules.specs.Release.{isSpent, inQueue, behind, topmostAt}
 use Rattle.rules.specs.Sound.{shaped, placed, settled, settledOn, placeGood, spentGood, waitsAt, isStalls}
 use Rattle.rules.specs.Sound.{runsAs, sound}
 use Rattle.rules.proofs.Basics.Views.{Two, yes-true, no-false, two, clash, and-true-left, and-true-right, and-true-both, and4}
@@ -79,6 +79,14 @@ queue-is (Behind q) e = clash false e refl
 queue-is (On n) e = clash false e refl
 queue-is Stalled e = clash false e refl
 queue-is Spent e = clash false e refl
+
+-- and of the followers of a timeslice
+pub behind-is : (q : ℕ) (p : Place) → behind q p ≡ true → p ≡ Behind q
+behind-is q Queue e = clash false e refl
+behind-is q (Behind r) e = ap Behind (eqb-true r q e)
+behind-is q (On n) e = clash false e refl
+behind-is q Stalled e = clash false e refl
+behind-is q Spent e = clash false e refl
 
 -- On: what the test says is what the links say
 waits-of : (s : State) (t n : ℕ) → Standing (s .threads) (owner s t)

@@ -18,6 +18,7 @@ dispatch-spec =
     (λ c. search needs) (λ c _. c .before .before .before .pre)  -- abort
     (λ c. search needs) (λ c _. c .before .before .before .pre)  -- refill
     (λ c. search needs) (λ c _. c .before .before .before .pre)  -- remove
+    (λ c. search needs) (λ c _. c .before .before .before .pre)  -- rank
     (λ c. rw (c .before .before .e .given .1) (c .dispatch-create .ensures))
     (λ c. rw (c .before .before .e2 .given .1) (c .dispatch-give .ensures))
     (λ c. rw (c .before .before .e3 .given .1) (c .dispatch-call .ensures))
@@ -27,4 +28,5 @@ dispatch-spec =
     (λ c. rw (c .before .before .e5 .given .1) (c .dispatch-charge .ensures))
     (λ c. rw (c .before .before .e6 .given .1) (c .dispatch-abort .ensures))
     (λ c. rw (c .before .before .e7 .given .1) (c .dispatch-refill .ensures))
-    (λ c. rw (c .before .before .e8 .given .1) (c .dispatch-remove .ensures)))
+    (λ c. rw (c .before .before .e8 .given .1) (c .dispatch-remove .ensures))
+    (λ c. rw (c .before .before .e9 .given .1) (c .dispatch-rank .ensures)))

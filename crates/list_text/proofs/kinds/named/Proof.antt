@@ -11,7 +11,7 @@ use Rattle.rules.specs.Key.{bytes}
 use Rattle.list_text.specs.declared.Line.{Line}
 use Rattle.list_text.specs.declared.Line.the-variants.{Wrong}
 use Rattle.list_text.specs.Reading.{eventNamed, noSuchEvent, wordsOf, same, last}
-use Rattle.list_text.specs.Reading.{create, give, call, wake, charge, abort, refill, remove}
+use Rattle.list_text.specs.Reading.{create, give, call, wake, charge, abort, refill, remove, rank}
 use Rattle.list_text.proofs.kinds.named.Statement.{statement}
 use Rattle.list_text.proofs.kinds.named.Tie as tie
 
@@ -32,6 +32,7 @@ kinds =
     ∷ (bytes "abort", abort)
     ∷ (bytes "refill", refill)
     ∷ (bytes "remove", remove)
+    ∷ (bytes "rank", rank)
     ∷ []
 
 abbrev among : List Kind → List ℕ → List (List ℕ) → Line
@@ -166,7 +167,17 @@ past-10 c = fails (past-9 (c .before .before .before)) (c .before .same10 .ensur
 
 returns-11 : tie.Need-returns-11
 unfolding bytes
-returns-11 c = sym (past-10 c .is)
+returns-11 c =
+    let tested = c .before .before in
+    holds (past-10 (tested .before .before)) (tested .same11 .ensures) (c .before .if11 .taken) (c .rank .ensures)
+
+abbrev past-11 : tie.Else11 → Past (drop 11 kinds)
+unfolding bytes
+past-11 c = fails (past-10 (c .before .before .before)) (c .before .same11 .ensures) (c .if11 .left)
+
+returns-12 : tie.Need-returns-12
+unfolding bytes
+returns-12 c = sym (past-11 c .is)
 
 pub named-spec : {M : Type 1} → statement M
 named-spec =
@@ -182,4 +193,5 @@ named-spec =
     (λ c. search needs) (λ _ _. tt) (λ _ _. tt) returns-8
     (λ c. search needs) (λ _ _. tt) (λ _ _. tt) returns-9
     (λ c. search needs) (λ _ _. tt) (λ _ _. tt) returns-10
-    returns-11)
+    (λ c. search needs) (λ _ _. tt) (λ _ _. tt) returns-11
+    returns-12)

@@ -20,6 +20,7 @@ record-length-spec =
     (λ c. search needs)  -- abort
     (λ c. search needs)  -- refill
     (λ c. search needs)  -- remove
+    (λ c. search needs)  -- rank
     (λ c. (rw (c .enum-told .given .1) refl, omega arith))  -- create
     (λ c. (rw (c .enum-told2 .given .1) refl, omega arith))  -- give
     (λ c. (rw (c .enum-told3 .given .1) refl, omega arith))  -- call
@@ -29,4 +30,5 @@ record-length-spec =
     (λ c. (rw (c .enum-told7 .given .1) refl, omega arith))  -- charge
     (λ c. (rw (c .enum-told8 .given .1) refl, omega arith))  -- abort
     (λ c. (rw (c .enum-told9 .given .1) refl, omega arith))  -- refill
-    (λ c. (rw (c .enum-told10 .given .1) refl, omega arith)))  -- remove
+    (λ c. (rw (c .enum-told10 .given .1) refl, omega arith))  -- remove
+    (λ c. (rw (c .enum-told11 .given .1) refl, omega arith)))  -- rank

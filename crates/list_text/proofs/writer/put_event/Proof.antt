@@ -21,6 +21,7 @@ put-event-spec =
     (λ c. search needs) (λ c. search needs) (λ c. search needs) (λ _ _. tt)  -- abort
     (λ c. search needs) (λ c. search needs) (λ c. search needs) (λ _ _. tt)  -- refill
     (λ c. search needs) (λ c. search needs) (λ c. search needs) (λ _ _. tt)  -- remove
+    (λ c. search needs) (λ _ _. tt)  -- rank
     (λ c. search needs)  -- create
     (λ c. let put = c .before .before in rw (put .before .before .before .event .given .1) (put .put-create .ensures))
     (λ c. search needs)  -- give
@@ -40,4 +41,6 @@ put-event-spec =
     (λ c. search needs)  -- refill
     (λ c. let put = c .before .before in rw (put .before .before .before .before .event7 .given .1) (put .put-named5 .ensures))
     (λ c. search needs)  -- remove
-    (λ c. let put = c .before .before in rw (put .before .before .before .before .event8 .given .1) (put .put-named6 .ensures)))
+    (λ c. let put = c .before .before in rw (put .before .before .before .before .event8 .given .1) (put .put-named6 .ensures))
+    (λ c. search needs)  -- rank
+    (λ c. let put = c .before .before in rw (put .before .before .before .event9 .given .1) (put .put-rank .ensures)))

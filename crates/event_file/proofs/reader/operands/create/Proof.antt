@@ -1,18 +1,18 @@
 -- `create`: two operands, then the role.
 use mathlib.Core.Path.{_≡_}
 use lib.ListN.{getD}
-use Rattle.rules.specs.EventFile.{createFrom, createWith}
+use Rattle.rules.specs.EventFile.{twoBytes, createWith}
 use Rattle.event_file.specs.Answers.{foundOf}
 use denote.Ref.{now}
 use borrow.Author.Tests.{eq-eqb, ne-eqb}
 use Rattle.event_file.proofs.Shapes.{fit, unfit}
-use Rattle.rules.proofs.Files.Operands.{createFrom-is}
+use Rattle.rules.proofs.Files.Operands.{twoBytes-is}
 use borrow.Author.Needs.{needs}
 use Rattle.event_file.proofs.reader.operands.create.Statement.{statement}
 use Rattle.event_file.proofs.reader.operands.create.Tie as tie
 
 returns : tie.Need-returns
-returns c = unfit _ _ _ _ (createFrom-is (now (c .before .args .operands))) (c .if1 .taken)
+returns c = unfit _ _ _ _ (twoBytes-is createWith (now (c .before .args .operands))) (c .if1 .taken)
 
 shared-slice-read-thread : tie.Need-shared-slice-read-thread
 shared-slice-read-thread c = search needs
@@ -24,8 +24,8 @@ shared-slice-read-role c = search needs
 read :
     (c : tie.After-shared-slice-known2) →
     let l = now (c .before .before .before .args .operands) in
-    foundOf (createWith (getD l 0 0) (getD l 1 0)) ≡ foundOf (createFrom l)
-read c = fit _ _ _ _ (createFrom-is (now (c .before .before .before .args .operands))) (c .before .before .if1 .left)
+    foundOf (createWith (getD l 0 0) (getD l 1 0)) ≡ foundOf (twoBytes createWith l)
+read c = fit _ _ _ _ (twoBytes-is createWith (now (c .before .before .before .args .operands))) (c .before .before .if1 .left)
 
 returns-2 : tie.Need-returns-2
 returns-2 c = simp (← read (c .before), eq-eqb _ _ (c .if2 .taken))

@@ -5,7 +5,7 @@ use Rattle.event_file.proofs.reader.operands.event_of.Statement.{statem
 use Rattle.event_file.proofs.reader.operands.event_of.Tie as tie
 
 -- every test fails where no key is the kind
-no-kind : tie.Need-returns-11
+no-kind : tie.Need-returns-12
 no-kind c =
     simp (
       ne-eqb _ _ (c .match .rest .1),
@@ -18,6 +18,7 @@ no-kind c =
       ne-eqb _ _ (c .match .rest .0 .0 .0 .0 .0 .0 .0 .1),
       ne-eqb _ _ (c .match .rest .0 .0 .0 .0 .0 .0 .0 .0 .1),
       ne-eqb _ _ (c .match .rest .0 .0 .0 .0 .0 .0 .0 .0 .0 .1),
+      ne-eqb _ _ (c .match .rest .0 .0 .0 .0 .0 .0 .0 .0 .0 .0 .1),
     )
 
 -- the arms in their order, each with its call; then, in the same order, what each has made
@@ -35,6 +36,7 @@ event-of-spec =
     (λ c _. search needs)  -- abort
     (λ c _. search needs)  -- refill
     (λ c _. search needs)  -- remove
+    (λ c _. search needs)  -- rank
     (λ c. simp (← c .create .ensures, c .before .match .keys1))
     (λ c. simp (← c .give .ensures, c .before .match .keys2))
     (λ c. simp (← c .call .ensures, c .before .match .keys3))
@@ -45,4 +47,5 @@ event-of-spec =
     (λ c. simp (← c .abort .ensures, c .before .match .keys8))
     (λ c. simp (← c .refill .ensures, c .before .match .keys9))
     (λ c. simp (← c .remove .ensures, c .before .match .keys10))
+    (λ c. simp (← c .rank .ensures, c .before .match .keys11))
     no-kind)

@@ -18,6 +18,7 @@ put-record-spec =
     (λ c. search needs) (λ c _. rw (c .before .before .event6 .given .1) at (c .before .before .before .before .before .pre))  -- abort
     (λ c. search needs) (λ c _. rw (c .before .before .event7 .given .1) at (c .before .before .before .before .before .pre))  -- refill
     (λ c. search needs) (λ c _. rw (c .before .before .event8 .given .1) at (c .before .before .before .before .before .pre))  -- remove
+    (λ c. search needs) (λ c _. rw (c .before .before .event9 .given .1) at (c .before .before .before .before .before .pre))  -- rank
     (λ c. search needs)  -- create
     (λ c. let put = c .before .before in rw (put .before .before .before .event .given .1) (put .put-create .ensures))
     (λ c. search needs)  -- give
@@ -37,4 +38,6 @@ put-record-spec =
     (λ c. search needs)  -- refill
     (λ c. let put = c .before .before in rw (put .before .before .before .event7 .given .1) (put .put34 .ensures))
     (λ c. search needs)  -- remove
-    (λ c. let put = c .before .before in rw (put .before .before .before .event8 .given .1) (put .put35 .ensures)))
+    (λ c. let put = c .before .before in rw (put .before .before .before .event8 .given .1) (put .put35 .ensures))
+    (λ c. search needs)  -- rank
+    (λ c. let put = c .before .before in rw (put .before .before .before .event9 .given .1) (put .put4 .ensures)))
