@@ -1,9 +1,9 @@
 -- Document 01, "Marked sequences", with K9 as document 02, [2], reads: K1 to K11 and rows of our own as one table, and one statement that
 -- every row meets.
--- Proved by computation: antt runs the definitions on each row.
-use Prim.Native.Nat.{ℕ}
+-- Proved by computation: antt runs the definitions on each row, once for all that is asked of it.
+use Prim.Native.Nat.{ℕ, zero, suc}
 use Prim.Native.String.{String}
-use mathlib.Core.Path.{_≡_, refl}
+use mathlib.Core.Path.{_≡_, refl, sym, _∙_}
 use mathlib.Core.List.{List, [], _∷_, _++_}
 use mathlib.Core.Bool.{Bool, true}
 use Rattle.rules.specs.declared.Role.the-variants.{Client, Server}
@@ -13,9 +13,10 @@ use Rattle.rules.specs.declared.Event.{Event}
 use Rattle.rules.specs.declared.Event.the-variants.{Create, Give, Call, Reply, Block, Wake, Charge, Abort, Refill, Remove, Rank}
 use Rattle.rules.specs.State.{State, empty, placeAt}
 use Rattle.rules.specs.Sound.{sound}
-use Rattle.rules.specs.Lists.{after}
-use Rattle.rules.specs.EventFile.{fileOf, eventsOf}
-use Rattle.rules.specs.Key.{bytes, key, plainKey}
+use Rattle.rules.specs.Events.{Answered, offer}
+use Rattle.rules.specs.Lists.{run, after}
+use Rattle.rules.specs.EventFile.{fileOf, fileRefusal, eventsOf}
+use Rattle.rules.specs.Key.{bytes, lines as keyLines, fileLine, keyAfter, key, plainKey}
 use Rattle.rules.proofs.Computing.{computing}
 
 -- a line of the key: all columns but the last, and the last
@@ -93,6 +94,45 @@ Meets r = result r ≡ expected r
 abbrev pub All : (Row → Type 0) → List Row → Type 0
 All P [] = Unit {0}
 All P (r ∷ rs) = P r × All P rs
+
+-- the result by the answers of one run: the key's lines are these answers', and the machine after the file is the last one's
+unfoldable lastMachine : List Answered → State → State
+lastMachine [] s = s
+lastMachine (a ∷ rest) s = lastMachine rest (a .state)
+
+abbrev keyOf : ℕ → List Answered → List ℕ
+keyOf zero answers = keyLines 1 answers
+keyOf (suc number) answers = fileLine (suc number)
+
+unfoldable resultOf : Row → List Answered → Result
+resultOf r answers =
+    let m = lastMachine answers empty in
+    record {
+      printed = keyOf (fileRefusal (r .file)) answers;
+      plain = plainKey (r .file);
+      places = stands (r .places) m;
+      soundAfter = sound m;
+    }
+
+last-machine : (es : List Event) (s : State) → lastMachine (run es s) s ≡ after es s
+unfolding run after lastMachine
+last-machine [] s = refl
+last-machine (e ∷ es) s = last-machine es (offer e s .state)
+
+key-of : (k : ℕ) (file : List ℕ) → keyOf k (run (eventsOf file) empty) ≡ keyAfter k file
+key-of zero file = refl
+key-of (suc k) file = refl
+
+meets : (r : Row) → resultOf r (run (eventsOf (r .file)) empty) ≡ expected r → Meets r
+unfolding result resultOf key machineAfter
+meets r e =
+    let m = last-machine (eventsOf (r .file)) empty in
+    let printed = key-of (fileRefusal (r .file)) (r .file) in
+    sym (λ i. record { printed = printed i; plain = plainKey (r .file); places = stands (r .places) (m i); soundAfter = sound (m i) }) ∙ e
+
+infixr 20 _also_
+abbrev _also_ : {A B : Type 0} → A → B → A × B
+a also b = (a, b)
 
 abbrev at : ℕ → Place → Stands
 at t p = record { timeslice = t; place = p }
@@ -365,35 +405,12 @@ rows =
     ∷ leaderRemoved ∷ callerRemoved ∷ loopRemoved ∷ rankedInTurn ∷ leaderRanked ∷ followerRanked ∷ stalledRanked ∷ []
 
 pub marked : All Meets rows
-unfolding computing linesText plainLinesText text plainText stands placesOf machineAfter result expected K1 two twoPrints K2 K3 four
-    fourPrints K4 K5 K6 seven sevenPrints K7 K8 K9 K10 K11 ownTimeslice refilledInTurn leading
-    leadingPrints spentLeader serverRemoved leaderRemoved callerRemoved loopRemoved rankedInTurn leaderRanked followerRanked stalledRanked
-    rows
-marked = (
-  refl,
-  (
-    refl,
-    (
-      refl,
-      (
-        refl,
-        (
-          refl,
-          (
-            refl,
-            (
-              refl,
-              (
-                refl,
-                (
-                  refl,
-                  (refl, (refl, (refl, (refl, (refl, (refl, (refl, (refl, (refl, (refl, (refl, (refl, (refl, tt))))))))))))),
-                ),
-              ),
-            ),
-          ),
-        ),
-      ),
-    ),
-  ),
-)
+unfolding computing linesText plainLinesText text plainText stands placesOf lastMachine resultOf expected K1 two twoPrints K2 K3 four
+    fourPrints K4 K5 K6 seven sevenPrints K7 K8 K9 K10 K11 ownTimeslice refilledInTurn leading leadingPrints spentLeader serverRemoved
+    leaderRemoved callerRemoved loopRemoved rankedInTurn leaderRanked followerRanked stalledRanked rows
+marked =
+    meets K1 refl also meets K2 refl also meets K3 refl also meets K4 refl also meets K5 refl also meets K6 refl also
+    meets K7 refl also meets K8 refl also meets K9 refl also meets K10 refl also meets K11 refl also meets ownTimeslice refl also
+    meets refilledInTurn refl also meets spentLeader refl also meets serverRemoved refl also meets leaderRemoved refl also
+    meets callerRemoved refl also meets loopRemoved refl also meets rankedInTurn refl also meets leaderRanked refl also
+    meets followerRanked refl also meets stalledRanked refl also tt
