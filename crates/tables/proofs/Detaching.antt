@@ -12,17 +12,17 @@ use Rattle.rules.specs.Timeslices.{ranked}
 use Rattle.rules.specs.Timeslices as slices
 use Rattle.rules.specs.Release.{behind}
 use Rattle.rules.specs.Events.{detached}
-use Rattle.tables.specs.Timeslices.{sliceOf, placeOf, freeTimeslice, withPlace, withPriority, setPlace, setPriority}
+use Rattle.tables.specs.Timeslices.{sliceOf, placeOf, freeTimeslice, withPlace, withPriority, setPriority}
 use Rattle.tables.specs.Releasing.{detachedPlaces, Replaced}
 use Rattle.tables.proofs.Lookups.{slice-at, place-at, map-set}
 use Rattle.tables.proofs.ReleaseLoop.{release-is}
 
 -- a timeslice at another place
-pub replaced : (ts : List Timeslice) (t : ℕ) (p : Place) → Replaced ts (set (map placeOf ts) t p) (setPlace t p ts)
-unfolding setPlace
-replaced ts t p =
-    let x = withPlace p (getD ts t freeTimeslice) in
-    record { slices = map-set-same sliceOf ts t x freeTimeslice refl; places = map-set placeOf ts t x }
+pub replaced : (ts : List Timeslice) (t : ℕ) (p : Place) (x : Timeslice) → x ≡ getD ts t freeTimeslice
+    → Replaced ts (set (map placeOf ts) t p) (set ts t (withPlace p x))
+replaced ts t p x e =
+    let y = withPlace p x in
+    record { slices = map-set-same sliceOf ts t y freeTimeslice (ap sliceOf e); places = map-set placeOf ts t y }
 
 pub unmoved : (ts : List Timeslice) → Replaced ts (map placeOf ts) ts
 unmoved ts = record { slices = refl; places = refl }

@@ -27,8 +27,5 @@ abbrev pub withPriority : ℕ → Timeslice → Timeslice
 withPriority n x = record { owner = x .owner; priority = n; quantum = x .quantum; left = x .left; place = x .place }
 
 -- the table with one of them so
-unfoldable pub setPlace : ℕ → Place → List Timeslice → List Timeslice
-setPlace t p ts = set ts t (withPlace p (getD ts t freeTimeslice))
-
 unfoldable pub setPriority : ℕ → ℕ → List Timeslice → List Timeslice
 setPriority t n ts = set ts t (withPriority n (getD ts t freeTimeslice))

@@ -1,9 +1,9 @@
 // Document 02, [4]: what a rank does to the timeslices.
 ghost use mathlib.Core.Path.{_≡_};
 ghost use mathlib.Core.List.{map};
-ghost use lib.ListN.{take};
+ghost use lib.ListN.{set, take};
 ghost use Rattle.rules.specs.State.{placeAt};
-ghost use Rattle.tables.specs.Timeslices.{sliceOf, placeOf, setPlace, setPriority};
+ghost use Rattle.tables.specs.Timeslices.{sliceOf, placeOf, setPriority};
 ghost use Rattle.tables.specs.Releasing.{detachedPlaces, Replaced};
 use crate::lookup::timeslice_at;
 use crate::numbers::index;
@@ -11,14 +11,12 @@ use crate::release::release;
 use rules::Place;
 use rules::Timeslice;
 
-pub fn with_place(mut timeslices: [Timeslice; 128], t: u8, place: Place) -> [Timeslice; 128]
-    ensures { λ r. ⌜ r ≡ setPlace t place timeslices ⌝ }
+pub fn with_record(mut timeslices: [Timeslice; 128], t: u8, x: Timeslice) -> [Timeslice; 128]
+    ensures { λ r. ⌜ r ≡ set timeslices t x ⌝ }
 {
     let k = index(t);
     if k < 128 {
-        let x = timeslices[k];
-        let y = Timeslice { place, ..x };
-        timeslices[k] = y;
+        timeslices[k] = x;
     }
     timeslices
 }
@@ -26,13 +24,9 @@ pub fn with_place(mut timeslices: [Timeslice; 128], t: u8, place: Place) -> [Tim
 pub fn with_priority(mut timeslices: [Timeslice; 128], t: u8, priority: u8) -> [Timeslice; 128]
     ensures { λ r. ⌜ r ≡ setPriority t priority timeslices ⌝ }
 {
-    let k = index(t);
-    if k < 128 {
-        let x = timeslices[k];
-        let y = Timeslice { priority, ..x };
-        timeslices[k] = y;
-    }
-    timeslices
+    let x = timeslice_at(timeslices, t);
+    let y = Timeslice { priority, ..x };
+    with_record(timeslices, t, y)
 }
 
 // Nobody stands Behind the timeslice any more, and it stands Behind nobody.
@@ -44,7 +38,13 @@ pub fn detached(timeslices: [Timeslice; 128], order: [u8; 128], live: u8, t: u8)
     let place = x.place;
     match place {
         Place::Queue => release(timeslices, order, live, Place::Behind(t)),
-        Place::Behind(_) => with_place(timeslices, t, Place::Queue),
+        Place::Behind(_) => {
+            let y = Timeslice {
+                place: Place::Queue,
+                ..x
+            };
+            with_record(timeslices, t, y)
+        }
         Place::On(_) => timeslices,
         Place::Stalled => timeslices,
         Place::Spent => timeslices,

@@ -13,7 +13,7 @@ returns-2 : tie.Need-returns-2
 returns-2 c =
     let at-read = c .before .before .before in
     by-place _ _ _ _ _ _ (at-read .timeslice-at .ensures) (c .before .enum-told2 .given .1)
-    (rw (c .with-place .ensures) (replaced _ _ _))
+    (rw (c .with-record .ensures) (replaced _ _ _ _ (at-read .timeslice-at .ensures)))
 
 -- the arms in their order, with their calls; then, in the same order, what each returns
 pub detached-spec : {M : Type 1} → statement M
