@@ -12,7 +12,8 @@ unfolding setPriority
 returns c =
     let at-read = c .before in
     let a = at-read .before .args in
-    c .with-record .ensures ∙ ap (λ (x : Timeslice). set (a .timeslices) (a .t) (withPriority (a .priority) x)) (at-read .timeslice-at .ensures)
+    c .with-record .ensures
+    ∙ ap (λ (x : Timeslice). set (a .timeslices) (a .t) (withPriority (a .priority) x)) (at-read .timeslice-at .ensures)
 
 pub with-priority-spec : {M : Type 1} → statement M
 with-priority-spec = tie.close (tie.spec (λ c _. search needs) (λ c _. search needs) returns)
