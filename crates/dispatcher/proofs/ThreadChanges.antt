@@ -53,11 +53,11 @@ few-links ts n c full is =
     omega (arith, most, live-most ts)
 
 -- a new thread
-module _ (m : Machine) (k n : ℕ) (r : Role) (h : Hold) (at : k ≡ n) (starts : h ≡ startsAs r) where
+module _ (m : Machine) (n : ℕ) (r : Role) (ths : List Thread) (new : ths ≡ created n r (m .threads)) where
   abbrev creation : Machine
   creation =
       record {
-        threads = set (m .threads) k (record { live = true; role = r; hold = h; service = Nobody });
+        threads = ths;
         timeslices = m .timeslices;
         order = m .order;
         «live_threads» = m .«live_threads» + 1;
@@ -65,18 +65,14 @@ module _ (m : Machine) (k n : ℕ) (r : Role) (h : Hold) (at : k ≡ n) (starts 
         running = m .running;
       }
 
-  creates : set (m .threads) k (record { live = true; role = r; hold = h; service = Nobody }) ≡ created n r (m .threads)
-  unfolding created
-  creates = ap₂ (λ (j : ℕ) (g : Hold). set (m .threads) j (record { live = true; role = r; hold = g; service = Nobody })) at starts
-
   pub creation-shown : shown creation ≡ withThreads (created n r (m .threads)) (shown m)
-  creation-shown = ap (λ (l : List Thread). withThreads l (shown m)) creates
+  creation-shown = ap (λ (l : List Thread). withThreads l (shown m)) new
 
   pub creation-exact : stored m ≡ true → n < length (m .threads) → threadAt (m .threads) n .live ≡ false → stored creation ≡ true
   creation-exact ok short free =
       stored-with m ok creation refl refl
       (add-one (m .«live_threads») ∙ ap suc (live-is m ok) ∙ sym (created-made (m .threads) n r short free .count)
-      ∙ sym (ap liveThreads creates))
+      ∙ sym (ap liveThreads new))
 
 -- what stands at an index stands at its number
 pub read : {A : Type 0} (f : Thread → A) (ts : List Thread) (k n : ℕ) (v : A) → k ≡ n → f (threadAt ts k) ≡ v → f (threadAt ts n) ≡ v

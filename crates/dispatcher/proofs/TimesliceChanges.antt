@@ -17,7 +17,8 @@ use Rattle.rules.specs.declared.Chain.{Chain}
 use Rattle.rules.specs.declared.Running.the-variants.{Runs}
 use Rattle.rules.specs.declared.Timeslice.{Timeslice}
 use Rattle.rules.specs.Tests.{member}
-use Rattle.rules.specs.State.{Slice, State, freeSlice, sliceAt, leftAt, placeAt, withThreads, withPlaces, withTimeslices}
+use Rattle.rules.specs.declared.Slice.{Slice}
+use Rattle.rules.specs.State.{State, freeSlice, sliceAt, leftAt, placeAt, withThreads, withPlaces, withTimeslices}
 use Rattle.rules.specs.Walk.{walk}
 use Rattle.rules.specs.Timeslices.{withLeft, setLeft, given, last, without, toBack, charged, refilled, struck, ranked}
 use Rattle.rules.specs.Release.{behind, release}

@@ -29,6 +29,7 @@ use Rattle.rules.proofs.Tables.Writes.{starting, within}
 use Rattle.rules.proofs.Links.Counting.{liveThat, liveThat-at-most, liveThat-more}
 use Rattle.rules.proofs.Links.Chains.{To, stop, call, help, walk-ends, walk-links}
 use Rattle.rules.proofs.Soundness.Standings.{links-live}
+use Rattle.rules.proofs.Soundness.Shapes.{Shape}
 use Rattle.rules.proofs.Soundness.Places.{Sound, owner, owner-live}
 use Rattle.rules.proofs.Events.Hands.{linkLimit, active}
 use Rattle.rules.proofs.Agreement.{agrees}
@@ -143,11 +144,10 @@ distinct-below n l d small =
     )
 
 -- and a turn order that lacks a number has room for it
-pub turns-room : (s : State) → Sound s → (t : ℕ) → t < limit → member t (s .order) ≡ false → length (s .order) < limit
-turns-room s x t h unlisted =
-    let turns = x .mid .shape .turns in
-    distinct-below limit (t ∷ s .order) (distinct-cons t (s .order) unlisted (turns .once))
-    (λ u. each (λ m. m < limit) u t (s .order) h (turns .small u))
+pub turns-room : (p : Plain) → Shape p → (t : ℕ) → t < limit → member t (p .order) ≡ false → length (p .order) < limit
+turns-room p x t h unlisted =
+    distinct-below limit (t ∷ p .order) (distinct-cons t (p .order) unlisted (x .turns .once))
+    (λ u. each (λ m. m < limit) u t (p .order) h (x .turns .small u))
 
 -- each timeslice has a live owner of its own, so there are no more timeslices than threads
 pub timeslices-most : (s : State) → Sound s → length (s .order) ≤ liveThreads (s .threads)

@@ -20,7 +20,8 @@ use Rattle.rules.specs.declared.Running.the-variants.{Nothing, Runs}
 use Rattle.rules.specs.declared.Event.{Event}
 use Rattle.rules.specs.declared.Event.the-variants.{Create, Give, Call, Reply, Block, Wake, Charge, Abort, Refill, Remove, Rank}
 use Rattle.rules.specs.Tests.{member}
-use Rattle.rules.specs.State.{Slice, State, Plain, forget, freeSlice, holdAt, serviceAt, sliceAt, leftAt, placeAt}
+use Rattle.rules.specs.declared.Slice.{Slice}
+use Rattle.rules.specs.State.{State, Plain, forget, freeSlice, holdAt, serviceAt, sliceAt, leftAt, placeAt}
 use Rattle.rules.specs.Threads.{replied}
 use Rattle.rules.specs.Timeslices.{withPriority, ownOf, given, without, charged, refilled, struck, ranked}
 use Rattle.rules.specs.Release.{isSpent}

@@ -14,7 +14,9 @@ pub mod Events
 pub mod Agreement
 pub mod Bounds
 pub mod Demands
+pub mod LastColumn
 pub mod Judging
+pub mod JudgingAnew
 pub mod Depletion
 pub mod Removal
 pub mod Ranking

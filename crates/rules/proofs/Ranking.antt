@@ -14,7 +14,8 @@ use Rattle.rules.specs.declared.Place.the-variants.{Queue, Behind}
 use Rattle.rules.specs.declared.Event.{Event}
 use Rattle.rules.specs.declared.Event.the-variants.{Rank}
 use Rattle.rules.specs.Tests.{member}
-use Rattle.rules.specs.State.{Slice, State, Plain, forget, freePlace, sliceAt, priorityAt, placeAt, withPlaces}
+use Rattle.rules.specs.declared.Slice.{Slice}
+use Rattle.rules.specs.State.{State, Plain, forget, freePlace, sliceAt, priorityAt, placeAt, withPlaces}
 use Rattle.rules.specs.Walk.{ended}
 use Rattle.rules.specs.Order.{standsAbove}
 use Rattle.rules.specs.Timeslices.{withPriority, toBack, ranked}

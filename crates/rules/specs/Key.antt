@@ -3,8 +3,8 @@ use Prim.Native.Nat.{ℕ, zero, suc, _+_, _/_, _%_}
 use Prim.Native.Char.{code}
 use Prim.Native.String.{String, [] as noText, _∷_ as _then_}
 use mathlib.Core.List.{List, [], _∷_, _++_}
-use mathlib.Core.Bool.{Bool, true, false}
-use lib.Dec.{ltb}
+use mathlib.Core.Bool.{Bool, true, false, cond, not, _&&_, _||_}
+use lib.Dec.{ltb, eqb}
 use Rattle.rules.specs.declared.Running.{Running}
 use Rattle.rules.specs.declared.Running.the-variants.{Nothing, Runs}
 use Rattle.rules.specs.State.{empty}
@@ -88,3 +88,24 @@ plainKeyAfter (suc number) file = fileLine (suc number)
 
 unfoldable pub plainKey : List ℕ → List ℕ
 plainKey file = plainKeyAfter (fileRefusal file) file
+
+-- Document 02, [1]: "each event's line without its last column", said of the bytes of a key: of every line, the last space and what follows
+-- it up to the line feed are left out. Here: no space comes before the line's end,
+unfoldable pub noSpaceLeft : List ℕ → Bool
+noSpaceLeft [] = true
+noSpaceLeft (b ∷ rest) = eqb b 10 || not (eqb b 32) && noSpaceLeft rest
+
+-- and the bytes that stay, from here on, within a last column or not
+unfoldable pub withoutLastFrom : Bool → List ℕ → List ℕ
+withoutLastFrom inside [] = []
+withoutLastFrom inside (b ∷ rest) =
+    cond (eqb b 10) (b ∷ withoutLastFrom false rest)
+    (cond (inside || eqb b 32 && noSpaceLeft rest) (withoutLastFrom true rest) (b ∷ withoutLastFrom false rest))
+
+abbrev pub withoutLast : List ℕ → List ℕ
+withoutLast key = withoutLastFrom false key
+
+-- the line of a refused file, which this number refuses, has no last column
+abbrev pub butLast : ℕ → List ℕ → List ℕ
+butLast zero key = withoutLast key
+butLast (suc number) key = key

@@ -5,7 +5,8 @@ use mathlib.Core.List.{List, [], _∷_}
 use mathlib.Core.Bool.{Bool, true, false, cond, _&&_, _||_}
 use mathlib.Core.Option.{Option, none, some}
 use lib.Dec.{ltb, eqb}
-use Rattle.rules.specs.State.{Slice, priorityAt}
+use Rattle.rules.specs.declared.Slice.{Slice}
+use Rattle.rules.specs.State.{priorityAt}
 
 -- a comes before b in the list
 unfoldable pub earlier : List ℕ → ℕ → ℕ → Bool

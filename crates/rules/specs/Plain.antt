@@ -1,7 +1,7 @@
 -- Document 01, "The plain machine": no places, no release, no choice; every live timeslice is judged after every event.
 use Prim.Native.Nat.{ℕ, zero, suc, _+_, _-_}
 use mathlib.Core.List.{List, []}
-use mathlib.Core.Bool.{cond}
+use mathlib.Core.Bool.{Bool, true, false, cond}
 use mathlib.Core.Option.{Option, none, some}
 use lib.ListN.{replicate}
 use lib.Dec.{ltb, eqb}
@@ -15,7 +15,8 @@ use Rattle.rules.specs.declared.Running.the-variants.{Nothing, Runs}
 use Rattle.rules.specs.declared.Chain.{Chain}
 use Rattle.rules.specs.declared.Event.{Event}
 use Rattle.rules.specs.declared.Event.the-variants.{Create, Give, Call, Reply, Block, Wake, Charge, Abort, Refill, Remove, Rank}
-use Rattle.rules.specs.State.{Slice, Plain, limit, freeThread, freeSlice, holdAt, serviceAt, leftAt, liveThreads}
+use Rattle.rules.specs.declared.Slice.{Slice}
+use Rattle.rules.specs.State.{Plain, limit, freeThread, freeSlice, holdAt, serviceAt, leftAt, liveThreads}
 use Rattle.rules.specs.Order.{topmost}
 use Rattle.rules.specs.Walk.{chainOf, verdict, mayRun, Verdict, runs, retries, waits, stalls}
 use Rattle.rules.specs.Threads.{setHold, created, donate, replied, aborted, removed}
@@ -131,3 +132,9 @@ plainOfferAfter (suc number) e p = record { plain = p; refusal = suc number }
 
 unfoldable pub plainOffer : Event → Plain → PlainAnswered
 plainOffer e p = plainOfferAfter (refusal e p) e p
+
+-- the plain engine, document 02, [1]: of what it is given by value it takes what is shaped; anything else, which no list of events makes,
+-- it hands back as given, with 1
+abbrev pub plainOfferIf : Bool → Event → Plain → PlainAnswered
+plainOfferIf true e p = plainOffer e p
+plainOfferIf false e p = record { plain = p; refusal = 1 }

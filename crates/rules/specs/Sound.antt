@@ -16,7 +16,8 @@ use Rattle.rules.specs.declared.Running.{Running}
 use Rattle.rules.specs.declared.Running.the-variants.{Nothing, Runs}
 use Rattle.rules.specs.declared.Chain.{Chain}
 use Rattle.rules.specs.Tests.{member, distinct, all, below, implies, agree}
-use Rattle.rules.specs.State.{Slice, State, Plain, forget, limit, threadAt, holdAt, serviceAt, liveAt, sliceAt, ownerAt, leftAt}
+use Rattle.rules.specs.declared.Slice.{Slice}
+use Rattle.rules.specs.State.{State, Plain, forget, limit, threadAt, holdAt, serviceAt, liveAt, sliceAt, ownerAt, leftAt}
 use Rattle.rules.specs.State.{placeAt}
 pub use Rattle.rules.specs.Holds.{isServer, isReady, isIdle, isBlocked, isCalling, isNobody, isServing, serverAt}
 use Rattle.rules.specs.Order.{standsAbove}

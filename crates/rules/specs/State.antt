@@ -11,17 +11,11 @@ use Rattle.rules.specs.declared.Hold.the-variants.{Ready}
 use Rattle.rules.specs.declared.Service.{Service}
 use Rattle.rules.specs.declared.Service.the-variants.{Nobody}
 use Rattle.rules.specs.declared.Thread.{Thread}
+use Rattle.rules.specs.declared.Slice.{Slice}
 use Rattle.rules.specs.declared.Place.{Place}
 use Rattle.rules.specs.declared.Place.the-variants.{Queue}
 use Rattle.rules.specs.declared.Running.{Running}
 use Rattle.rules.specs.declared.Running.the-variants.{Nothing, Runs}
-
--- "A timeslice has an owner, a priority, a quantum and what is left": a timeslice without its place
-pub record Slice : Type 0 where
-  pub owner : ℕ
-  pub priority : ℕ
-  pub quantum : ℕ
-  pub left : ℕ
 
 -- the dispatcher's machine: the turn order as a list; `running` holds the running thread, the current timeslice and the donation count
 pub record State : Type 0 where

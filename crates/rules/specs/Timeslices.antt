@@ -5,7 +5,8 @@ use mathlib.Core.Bool.{cond}
 use mathlib.Core.Option.{Option, none, some}
 use lib.ListN.{set}
 use lib.Dec.{eqb}
-use Rattle.rules.specs.State.{Slice, freeSlice, sliceAt, ownerAt, leftAt}
+use Rattle.rules.specs.declared.Slice.{Slice}
+use Rattle.rules.specs.State.{freeSlice, sliceAt, ownerAt, leftAt}
 
 -- a thread's own timeslice: "A thread owns at most one."
 unfoldable pub ownOf : List Slice → ℕ → List ℕ → Option ℕ

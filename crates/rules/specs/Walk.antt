@@ -7,7 +7,8 @@ use Rattle.rules.specs.declared.Hold.{Hold}
 use Rattle.rules.specs.declared.Hold.the-variants.{Ready, Idle, Blocked, Calling, Helping}
 use Rattle.rules.specs.declared.Thread.{Thread}
 use Rattle.rules.specs.declared.Chain.{Chain}
-use Rattle.rules.specs.State.{Slice, holdAt, ownerAt, leftAt, liveThreads}
+use Rattle.rules.specs.declared.Slice.{Slice}
+use Rattle.rules.specs.State.{holdAt, ownerAt, leftAt, liveThreads}
 
 -- before the first link
 abbrev pub noLinks : Chain

@@ -74,6 +74,27 @@ impl Timeslice {
     };
 }
 
+// "A timeslice has an owner, a priority, a quantum and what is left": one without its place, as the plain machine has it.
+pub struct Slice {
+    pub owner: u8,
+    pub priority: u8,
+    pub quantum: u16,
+    pub left: u16,
+}
+
+impl Slice {
+    // As many as there are timeslices.
+    pub const LIMIT: usize = 128;
+
+    // The one value of a free slot.
+    pub const FREE: Slice = Slice {
+        owner: 0,
+        priority: 0,
+        quantum: 0,
+        left: 0,
+    };
+}
+
 // The running thread, the current timeslice, which pays, and the donation count.
 pub enum Running {
     Nothing,

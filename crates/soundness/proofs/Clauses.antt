@@ -12,7 +12,8 @@ use Rattle.rules.specs.declared.Running.{Running}
 use Rattle.rules.specs.declared.Running.the-variants.{Nothing, Runs}
 use Rattle.rules.specs.declared.Place.{Place}
 use Rattle.rules.specs.declared.Timeslice.{Timeslice}
-use Rattle.rules.specs.State.{Slice, sliceAt, placeAt, nothingRuns}
+use Rattle.rules.specs.declared.Slice.{Slice}
+use Rattle.rules.specs.State.{sliceAt, placeAt, nothingRuns}
 use Rattle.rules.specs.Walk.{noLinks, walkFrom, verdict, Verdict}
 use Rattle.rules.specs.Release.{inQueue, topmostAt}
 use Rattle.rules.specs.Sound.{inRange, sliceFree, placeGood, runsAs}

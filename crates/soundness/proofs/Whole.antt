@@ -29,7 +29,7 @@ use Rattle.soundness.specs.Parts.{partsOf, entryFree, storedParts, sound
 use Rattle.soundness.specs.Parts.{placeTest, turnTest, settledBy, settledWithin}
 
 -- two tests that imply each other are the same
-same-test : (a b : Bool) → (a ≡ true → b ≡ true) → (b ≡ true → a ≡ true) → a ≡ b
+pub same-test : (a b : Bool) → (a ≡ true → b ≡ true) → (b ≡ true → a ≡ true) → a ≡ b
 same-test true b f g = sym (f refl)
 same-test false true f g = g refl
 same-test false false f g = refl

@@ -19,7 +19,7 @@ use tables::lookup::timeslice_at;
 use tables::order::in_set;
 use tables::order::member;
 
-pub(crate) fn thread_good(threads: [Thread; 128], n: u8) -> bool
+pub fn thread_good(threads: [Thread; 128], n: u8) -> bool
     ensures { λ r. ⌜ r ≡ threadTest threads n ⌝ }
 {
     let t = thread_at(threads, n);

@@ -4,18 +4,18 @@ ghost use mathlib.Core.Path.{_≡_};
 ghost use Rattle.soundness.specs.Parts.{soundParts};
 
 mod calls;
-mod each_number;
+pub mod each_number;
 mod each_turn;
 mod free_slots;
 mod idles;
 mod links;
-mod logic;
+pub mod logic;
 mod owners;
 mod places;
 mod ranges;
 mod running;
 mod stored_form;
-mod turn_order;
+pub mod turn_order;
 mod walk_ends;
 
 use crate::each_number::numbers_good;
@@ -23,11 +23,11 @@ use crate::each_turn::turns_good;
 use crate::logic::both;
 use crate::owners::owners_apart;
 use crate::running::is_settled;
-use crate::stored_form::count_live;
 use crate::turn_order::listed_once;
 use rules::Running;
 use rules::Thread;
 use rules::Timeslice;
+use tables::lives::count_live;
 
 // True counts, 0 in the free entries of the turn order, and the state shown is sound. The tables are full by their types.
 pub fn is_sound(

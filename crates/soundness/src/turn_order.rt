@@ -5,7 +5,7 @@ ghost use Rattle.rules.specs.Tests.{distinct};
 use tables::numbers::entries;
 use tables::order::listed_from;
 
-pub(crate) fn listed_once(order: [u8; 128], live: u8) -> bool
+pub fn listed_once(order: [u8; 128], live: u8) -> bool
     ensures { λ r. ⌜ r ≡ distinct (take live order) ⌝ }
 {
     let n = entries(live);

@@ -5,7 +5,8 @@ use mathlib.Core.List.{List}
 use mathlib.Core.Bool.{Bool, true, false}
 use native.Mathlib.Omega.{arith}
 use borrow.Author.Tests.{lt-ltb, le-ltb, eq-eqb, ne-eqb}
-use Rattle.rules.specs.State.{Slice, priorityAt}
+use Rattle.rules.specs.declared.Slice.{Slice}
+use Rattle.rules.specs.State.{priorityAt}
 use Rattle.rules.specs.Order.{earlier, standsAbove}
 
 module _ (ss : List Slice) (order : List ℕ) (a b high low : ℕ) (h : high ≡ priorityAt ss a) (l : low ≡ priorityAt ss b) where

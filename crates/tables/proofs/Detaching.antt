@@ -7,7 +7,8 @@ use lib.Seq.{map-set-same}
 use Rattle.rules.specs.declared.Place.{Place}
 use Rattle.rules.specs.declared.Place.the-variants.{Queue, Behind, On, Stalled, Spent}
 use Rattle.rules.specs.declared.Timeslice.{Timeslice}
-use Rattle.rules.specs.State.{Slice, State, placeAt, withPlaces}
+use Rattle.rules.specs.declared.Slice.{Slice}
+use Rattle.rules.specs.State.{State, placeAt, withPlaces}
 use Rattle.rules.specs.Timeslices.{ranked}
 use Rattle.rules.specs.Timeslices as slices
 use Rattle.rules.specs.Release.{behind}

@@ -11,7 +11,8 @@ use Rattle.rules.specs.declared.Hold.{Hold}
 use Rattle.rules.specs.declared.Hold.the-variants.{Ready}
 use Rattle.rules.specs.declared.Thread.{Thread}
 use Rattle.rules.specs.declared.Timeslice.{Timeslice}
-use Rattle.rules.specs.State.{Slice, freeThread, threadAt, holdAt, ownerAt, priorityAt, sliceAt, placeAt}
+use Rattle.rules.specs.declared.Slice.{Slice}
+use Rattle.rules.specs.State.{freeThread, threadAt, holdAt, ownerAt, priorityAt, sliceAt, placeAt}
 use Rattle.rules.proofs.Basics.Views.{Two, yes-true, no-false, two}
 use Rattle.tables.specs.Turning.{entriesOf}
 use Rattle.tables.specs.Timeslices.{sliceOf, placeOf, freeTimeslice}

@@ -10,7 +10,8 @@ use lib.Dec.{eqb}
 use Rattle.rules.specs.declared.Place.{Place}
 use Rattle.rules.specs.declared.Place.the-variants.{Queue, Behind}
 use Rattle.rules.specs.declared.Timeslice.{Timeslice}
-use Rattle.rules.specs.State.{Slice, freePlace, priorityAt, placeAt}
+use Rattle.rules.specs.declared.Slice.{Slice}
+use Rattle.rules.specs.State.{freePlace, priorityAt, placeAt}
 use Rattle.rules.specs.Order.{topmost}
 use Rattle.rules.specs.Release.{releasedPlace, releasedPlaces}
 use Rattle.rules.proofs.Basics.Views.{Two, yes-true, no-false, two, Same, equal, different, same}

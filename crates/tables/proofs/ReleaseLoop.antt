@@ -12,7 +12,8 @@ use lib.Dec.{eqb}
 use Rattle.rules.specs.declared.Place.{Place}
 use Rattle.rules.specs.declared.Place.the-variants.{Queue, Behind}
 use Rattle.rules.specs.declared.Timeslice.{Timeslice}
-use Rattle.rules.specs.State.{Slice, State, placeAt, withPlaces}
+use Rattle.rules.specs.declared.Slice.{Slice}
+use Rattle.rules.specs.State.{State, placeAt, withPlaces}
 use Rattle.rules.specs.Order.{topmost}
 use Rattle.tables.specs.declared.order.Sought.{Sought}
 use Rattle.tables.specs.declared.order.Sought.the-variants.{Nothing, At}

@@ -8,7 +8,8 @@ use lib.ListN.{set}
 use Rattle.rules.specs.declared.Place.{Place}
 use Rattle.rules.specs.declared.Place.the-variants.{Queue, Behind, On, Stalled, Spent}
 use Rattle.rules.specs.declared.Timeslice.{Timeslice}
-use Rattle.rules.specs.State.{Slice, placeAt}
+use Rattle.rules.specs.declared.Slice.{Slice}
+use Rattle.rules.specs.State.{placeAt}
 use Rattle.rules.specs.Order.{topmost}
 use Rattle.rules.specs.Release.{behind, releasedPlaces}
 use Rattle.tables.specs.Timeslices.{sliceOf, placeOf}

@@ -5,7 +5,7 @@ use lib.ListN.{getD, set}
 use Rattle.rules.specs.declared.Place.{Place}
 use Rattle.rules.specs.declared.Place.the-variants.{Queue}
 use Rattle.rules.specs.declared.Timeslice.{Timeslice}
-use Rattle.rules.specs.State.{Slice}
+use Rattle.rules.specs.declared.Slice.{Slice}
 
 -- "Free slots hold one fixed value"
 abbrev pub freeTimeslice : Timeslice

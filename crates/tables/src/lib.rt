@@ -2,6 +2,7 @@
 // number, also for a number past the end of a table and for more live entries than the turn order has room for.
 pub mod ends;
 pub mod heights;
+pub mod lives;
 pub mod lookup;
 pub mod numbers;
 pub mod order;

@@ -1,10 +1,11 @@
 // Document 01, "Events" and "Release and choice", and document 02, [3]: what they do to the threads.
 ghost use mathlib.Core.Path.{_≡_};
 ghost use Rattle.rules.specs.Threads.{setHold, setService, donate, replied as repliedOf, freeCaller, aborted as abortedOf, orphanServer};
-ghost use Rattle.rules.specs.Threads.{cutFrom, linksCut, removed as removedOf};
+ghost use Rattle.rules.specs.Threads.{cutFrom, linksCut, removed as removedOf, startsAs, created as createdOf};
 use crate::numbers::index;
 use crate::records::is_linked_to;
 use rules::Hold;
+use rules::Role;
 use rules::Service;
 use rules::Thread;
 
@@ -28,6 +29,33 @@ pub fn with_service(mut threads: [Thread; 128], n: u8, service: Service) -> [Thr
         let a = threads[k];
         let b = Thread { service, ..a };
         threads[k] = b;
+    }
+    threads
+}
+
+// A client starts Ready, a server Idle.
+pub(crate) fn starts_as(role: Role) -> Hold
+    ensures { λ r. ⌜ r ≡ startsAs role ⌝ }
+{
+    match role {
+        Role::Client => Hold::Ready,
+        Role::Server => Hold::Idle,
+    }
+}
+
+pub fn created(mut threads: [Thread; 128], n: u8, role: Role) -> [Thread; 128]
+    ensures { λ r. ⌜ r ≡ createdOf n role threads ⌝ }
+{
+    let k = index(n);
+    if k < 128 {
+        let hold = starts_as(role);
+        let new = Thread {
+            live: true,
+            role,
+            hold,
+            service: Service::Nobody,
+        };
+        threads[k] = new;
     }
     threads
 }

@@ -2,27 +2,14 @@
 ghost use mathlib.Core.Path.{_≡_};
 ghost use mathlib.Core.Bool.{true};
 ghost use Rattle.rules.specs.declared.Event.the-variants.{Create};
-ghost use Rattle.rules.specs.Threads.{startsAs};
 ghost use Rattle.rules.specs.Events.{dispatch};
 ghost use Rattle.dispatcher.specs.Shown.{shown, soundMachine};
 ghost use Rattle.dispatcher.specs.Promise.{Answers};
 use crate::Answered;
 use crate::Machine;
-use rules::Hold;
 use rules::Role;
-use rules::Service;
-use rules::Thread;
 use tables::numbers::index;
-
-// A client starts Ready, a server Idle.
-pub(crate) fn starts_as(role: Role) -> Hold
-    ensures { λ r. ⌜ r ≡ startsAs role ⌝ }
-{
-    match role {
-        Role::Client => Hold::Ready,
-        Role::Server => Hold::Idle,
-    }
-}
+use tables::threads::created;
 
 impl Machine {
     pub(crate) fn dispatch_create(mut self, n: u8, role: Role) -> Answered
@@ -37,14 +24,9 @@ impl Machine {
         if old.live {
             return self.answered(3, 0);
         }
-        let hold = starts_as(role);
-        let new = Thread {
-            live: true,
-            role,
-            hold,
-            service: Service::Nobody,
-        };
-        self.threads[k] = new;
+        let threads = self.threads;
+        let next = created(threads, n, role);
+        self.threads = next;
         let live = self.live_threads;
         self.live_threads = live + 1;
         self.answered(0, 0)

@@ -12,7 +12,8 @@ use Rattle.rules.specs.declared.Running.{Running}
 use Rattle.rules.specs.declared.Thread.{Thread}
 use Rattle.rules.specs.declared.Chain.{Chain}
 use Rattle.rules.specs.Tests.{member}
-use Rattle.rules.specs.State.{Slice, State, forget, holdAt, liveAt, placeAt, ownerAt, withThreads, withRunning}
+use Rattle.rules.specs.declared.Slice.{Slice}
+use Rattle.rules.specs.State.{State, forget, holdAt, liveAt, placeAt, ownerAt, withThreads, withRunning}
 use Rattle.rules.specs.Walk.{unlinked, linkOf, noLinks}
 use Rattle.rules.proofs.Order.Orders.{is-none}
 use Rattle.rules.proofs.Links.Chains.{linkAt, stop, Ends}

@@ -13,7 +13,8 @@ use Rattle.rules.specs.declared.Thread.{Thread}
 use Rattle.rules.specs.declared.Place.{Place}
 use Rattle.rules.specs.declared.Place.the-variants.{Queue, Behind, On, Stalled, Spent}
 use Rattle.rules.specs.Tests.{member, distinct}
-use Rattle.rules.specs.State.{Slice, State, limit, freeSlice, freePlace, liveAt, sliceAt, ownerAt, priorityAt, leftAt, placeAt}
+use Rattle.rules.specs.declared.Slice.{Slice}
+use Rattle.rules.specs.State.{State, limit, freeSlice, freePlace, liveAt, sliceAt, ownerAt, priorityAt, leftAt, placeAt}
 use Rattle.rules.specs.State.{withPlaces, withTimeslices}
 use Rattle.rules.specs.Order.{standsAbove}
 use Rattle.rules.specs.Release.{isSpent, inQueue, topmostAt}

@@ -9,7 +9,8 @@ use lib.Dec.{eqb}
 use borrow.Author.Tests.{ltb-false, le-leb, eqb-false, not-false}
 use Rattle.rules.specs.declared.Event.the-variants.{Give}
 use Rattle.rules.specs.Tests.{member}
-use Rattle.rules.specs.State.{Slice, State, forget, limit, freeSlice, liveAt, sliceAt, ownerAt, leftAt}
+use Rattle.rules.specs.declared.Slice.{Slice}
+use Rattle.rules.specs.State.{State, forget, limit, freeSlice, liveAt, sliceAt, ownerAt, leftAt}
 use Rattle.rules.specs.Timeslices.{given, last}
 use Rattle.rules.specs.Sound.{inRange}
 use Rattle.rules.specs.Refusals.{refusal, aboveLimit, ownsOne}

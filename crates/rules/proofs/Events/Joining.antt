@@ -15,7 +15,8 @@ use Rattle.rules.specs.declared.Place.the-variants.{Queue, Behind, On, S
 use Rattle.rules.specs.declared.Running.{Running}
 use Rattle.rules.specs.declared.Running.the-variants.{Nothing, Runs}
 use Rattle.rules.specs.Tests.{member}
-use Rattle.rules.specs.State.{Slice, State, Plain, forget, placeAt, ownerAt, leftAt, liveThreads}
+use Rattle.rules.specs.declared.Slice.{Slice}
+use Rattle.rules.specs.State.{State, Plain, forget, placeAt, ownerAt, leftAt, liveThreads}
 use Rattle.rules.specs.Order.{standsAbove}
 use Rattle.rules.specs.Release.{inQueue, onThread, topmostAt, release}
 use Rattle.rules.specs.Events.{joins, releases, overtakes, aboveRunning}

@@ -5,7 +5,8 @@ use mathlib.Core.List.{List}
 use mathlib.Core.Bool.{true}
 use lib.ListN.{length}
 use Rattle.rules.specs.Tests.{member}
-use Rattle.rules.specs.State.{Slice, State, sliceAt, ownerAt, priorityAt, leftAt}
+use Rattle.rules.specs.declared.Slice.{Slice}
+use Rattle.rules.specs.State.{State, sliceAt, ownerAt, priorityAt, leftAt}
 use Rattle.rules.specs.Order.{standsAbove}
 use Rattle.rules.specs.Timeslices.{withLeft, setLeft, toBack}
 use Rattle.rules.proofs.Order.Orders.{above-same}

@@ -12,7 +12,8 @@ use Rattle.rules.specs.declared.Place.{Place}
 use Rattle.rules.specs.declared.Place.the-variants.{Queue, Behind, On, Stalled, Spent}
 use Rattle.rules.specs.declared.Event.the-variants.{Rank}
 use Rattle.rules.specs.Tests.{member}
-use Rattle.rules.specs.State.{Slice, State, Plain, forget, freePlace, sliceAt, ownerAt, placeAt}
+use Rattle.rules.specs.declared.Slice.{Slice}
+use Rattle.rules.specs.State.{State, Plain, forget, freePlace, sliceAt, ownerAt, placeAt}
 use Rattle.rules.specs.Timeslices.{withPriority, toBack, ranked}
 use Rattle.rules.specs.Release.{isSpent, inQueue, behind, release}
 use Rattle.rules.specs.Refusals.{refusal, aboveLimit}

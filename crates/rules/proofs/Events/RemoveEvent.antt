@@ -13,7 +13,8 @@ use Rattle.rules.specs.declared.Thread.{Thread}
 use Rattle.rules.specs.declared.Chain.{Chain}
 use Rattle.rules.specs.declared.Event.the-variants.{Remove}
 use Rattle.rules.specs.Tests.{member}
-use Rattle.rules.specs.State.{Slice, State, Plain, forget, freeSlice, liveAt, ownerAt, liveThreads, withThreads}
+use Rattle.rules.specs.declared.Slice.{Slice}
+use Rattle.rules.specs.State.{State, Plain, forget, freeSlice, liveAt, ownerAt, liveThreads, withThreads}
 use Rattle.rules.specs.Walk.{walk}
 use Rattle.rules.specs.Threads.{removed}
 use Rattle.rules.specs.Timeslices.{ownOf, without, struck}

@@ -8,7 +8,8 @@ use lib.Seq.{getD-set-same, getD-set-other}
 use lib.Dec.{leb}
 use borrow.Author.Tests.{leb-true, le-leb}
 use Rattle.rules.specs.Tests.{member, distinct}
-use Rattle.rules.specs.State.{Slice, State, limit, freeSlice, sliceAt, ownerAt}
+use Rattle.rules.specs.declared.Slice.{Slice}
+use Rattle.rules.specs.State.{State, limit, freeSlice, sliceAt, ownerAt}
 use Rattle.rules.specs.Order.{standsAbove}
 use Rattle.rules.specs.Timeslices.{withLeft, withPriority, toBack}
 use Rattle.rules.specs.Sound.{inRange}

@@ -10,7 +10,8 @@ use lib.Dec.{leb, ltb, eqb, leb·suc-suc}
 use lib.ListN.{length, length-append}
 use borrow.Author.Tests.{ltb-true, ltb-false, lt-ltb, le-ltb, le-leb, lt-leb, eqb-true, eq-eqb, ne-eqb}
 use Rattle.rules.specs.Tests.{member, distinct}
-use Rattle.rules.specs.State.{Slice, priorityAt}
+use Rattle.rules.specs.declared.Slice.{Slice}
+use Rattle.rules.specs.State.{priorityAt}
 use Rattle.rules.specs.Order.{earlier, standsAbove, upper, topmost}
 use Rattle.rules.specs.Timeslices.{last, without, toBack}
 use Rattle.rules.proofs.Basics.Views.{Two, yes-true, no-false, two, clash, is-false, Same, equal, different, same}

@@ -7,7 +7,8 @@ use mathlib.Core.Option.{none, some}
 use lib.Dec.{eqb}
 use borrow.Author.Tests.{eqb-true, eqb-false}
 use Rattle.rules.specs.Tests.{member}
-use Rattle.rules.specs.State.{Slice, ownerAt}
+use Rattle.rules.specs.declared.Slice.{Slice}
+use Rattle.rules.specs.State.{ownerAt}
 use Rattle.rules.specs.Timeslices.{ownOf}
 use Rattle.rules.specs.Refusals.{isOne}
 use Rattle.rules.proofs.Basics.Views.{Two, yes-true, no-false, two, clash}

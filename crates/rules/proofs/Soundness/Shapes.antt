@@ -16,7 +16,8 @@ use Rattle.rules.specs.declared.Service.{Service}
 use Rattle.rules.specs.declared.Service.the-variants.{Nobody, Serving, Orphan}
 use Rattle.rules.specs.declared.Thread.{Thread}
 use Rattle.rules.specs.Tests.{member, distinct, all, below}
-use Rattle.rules.specs.State.{Slice, Plain, limit, freeThread, freeSlice, threadAt, holdAt, serviceAt, liveAt, sliceAt, ownerAt}
+use Rattle.rules.specs.declared.Slice.{Slice}
+use Rattle.rules.specs.State.{Plain, limit, freeThread, freeSlice, threadAt, holdAt, serviceAt, liveAt, sliceAt, ownerAt}
 use Rattle.rules.specs.Sound.{isServer, isReady, isNobody, isCalling, isServing, inRange, idleGood, threadFree, sliceFree}
 use Rattle.rules.specs.Sound.{callIsServed, servedIsCalling, linkGood, tablesFull, turnsOnce, ownersLive, rangesHold}
 use Rattle.rules.specs.Sound.{callsServed, linksGood, idlesGood, freeThreads, freeSlices, freeSlots, shaped}

@@ -102,7 +102,7 @@ hold-here : (ts : List Thread) (n : ℕ) (h : Hold) → n < length ts → holdAt
 unfolding setHold
 hold-here ts n h small = ap (λ (t : Thread). t .hold) (getD-set-same ts n (withHold h (threadAt ts n)) freeThread small)
 
-hold-there : (ts : List Thread) (n m : ℕ) (h : Hold) → (m ≡ n → ⊥) → holdAt (setHold n h ts) m ≡ holdAt ts m
+pub hold-there : (ts : List Thread) (n m : ℕ) (h : Hold) → (m ≡ n → ⊥) → holdAt (setHold n h ts) m ≡ holdAt ts m
 unfolding setHold
 hold-there ts n m h o = ap (λ (t : Thread). t .hold) (getD-set-other ts n m (withHold h (threadAt ts n)) freeThread o)
 
@@ -138,7 +138,7 @@ donate-relabels ts caller server =
 same-relabels : (ts : List Thread) → Relabels ts ts
 same-relabels ts = record { size = refl; live = λ m. refl; role = λ m. refl; count = refl }
 
-freed-relabels : (ts : List Thread) (v : Service) → Relabels ts (freeCaller v ts)
+pub freed-relabels : (ts : List Thread) (v : Service) → Relabels ts (freeCaller v ts)
 freed-relabels ts Nobody = same-relabels ts
 freed-relabels ts (Serving caller) = hold-relabels ts caller Ready
 freed-relabels ts Orphan = same-relabels ts

@@ -37,39 +37,31 @@ returns-2 c =
     let live = sym (ap (λ (k : ℕ). threadAt (m .threads) k .live) (c .before .before .before .index .ensures)) ∙ c .before .if2 .taken in
     refuse _ _ (c .answered2 .ensures) (rw (le-ltb _ _ (at-if1 .if1 .left), live) refl)
 
-starts-as-requires : tie.Need-starts-as-requires
-starts-as-requires c κs = search needs
-
-mul-new : tie.Need-mul-new
-mul-new c = search needs
-
-element-set-from-new : tie.Need-element-set-from-new
-element-set-from-new c = search needs
-
 add-self : tie.Need-add-self
 add-self c =
-    let start = c .before .before .before .before .before in
+    let start = c .before .before .before .before .before .before in
     let full : length (start .args .t1 .threads) ≡ 128 = simp length-map at (start .good .0 .1 .1 .0 .1 .0 .1) in
     omega (arith, live-is _ (sound-stored _ (start .pre)), live-most (start .args .t1 .threads))
 
 returns-3 : tie.Need-returns-3
 unfolding create
 returns-3 c =
-    let at-index = c .before .before .before .before in
+    let at-if2 = c .before .before .before in
+    let at-index = at-if2 .before .before in
     let at-if1 = at-index .before in
     let start = at-if1 .before in
     let a = start .args in
     let ok = sound-stored (a .t1) (start .pre) in
     let full : length (a .t1 .threads) ≡ 128 = simp length-map at (start .good .0 .1 .1 .0 .1 .0 .1) in
-    let free = sym (ap (λ (k : ℕ). threadAt (a .t1 .threads) k .live) (at-index .index .ensures)) ∙ c .before .before .if2 .left in
+    let free = sym (ap (λ (k : ℕ). threadAt (a .t1 .threads) k .live) (at-index .index .ensures)) ∙ at-if2 .if2 .left in
+    let new = c .before .created .ensures in
     accept (Create (a .n) (a .role)) (a .t1) (start .pre) (rw (le-ltb _ _ (at-if1 .if1 .left), free) refl)
     (create (a .n) (a .role) (shown (a .t1))) refl _
-    (stands (c .answered3 .ensures) (creation-shown (a .t1) _ _ _ _ (at-index .index .ensures) (c .before .starts-as .ensures))
-    (creation-exact (a .t1) _ _ _ _ (at-index .index .ensures) (c .before .starts-as .ensures) ok (omega (arith, full, at-if1 .if1 .left))
-    free))
+    (stands (c .answered3 .ensures) (creation-shown (a .t1) _ _ _ new)
+    (creation-exact (a .t1) _ _ _ new ok (omega (arith, full, at-if1 .if1 .left)) free))
 
 pub dispatch-create-spec : {M : Type 1} → statement M
 dispatch-create-spec =
     tie.close
-    (tie.spec (λ _ _. tt) returns index-requires mul-old element-copy-out-old (λ _ _. tt) returns-2 starts-as-requires mul-new
-    element-set-from-new add-self (λ _ _. tt) returns-3)
+    (tie.spec (λ _ _. tt) returns index-requires mul-old element-copy-out-old (λ _ _. tt) returns-2 (λ c _. search needs) add-self
+    (λ _ _. tt) returns-3)

@@ -8,6 +8,7 @@ use lib.Seq.{length-take-le}
 use Rattle.rules.specs.declared.Thread.{Thread}
 use Rattle.dispatcher.specs.Shown.{shown}
 use Rattle.rules.specs.declared.Event.the-variants.{Give}
+use Rattle.rules.specs.State.{forget}
 use Rattle.rules.specs.Events.{give}
 use Rattle.dispatcher.proofs.Stored.{sound-stored, sound-shown}
 use Rattle.dispatcher.proofs.Answering.{refuse, accept}
@@ -28,7 +29,8 @@ roomy c =
     let m = start .args .t1 in
     let fits = turns-fit m (sound-stored m (start .pre)) in
     let full : length (m .order) ≡ 128 = simp length-map at (start .good .0 .1 .1 .1 .1 .0 .1 .0 .1) in
-    let few = turns-room (shown m) (sound-of (shown m) (sound-shown m (start .pre))) (start .args .t) (omega (arith, at-if1 .if1 .left))
+    let shape = sound-of (shown m) (sound-shown m (start .pre)) .mid .shape in
+    let few = turns-room (forget (shown m)) shape (start .args .t) (omega (arith, at-if1 .if1 .left))
     (sym (c .before .member .ensures) ∙ c .if3 .left) in
     omega (arith, few, length-take-le (m .«live_timeslices») (m .order) (omega arith))
 

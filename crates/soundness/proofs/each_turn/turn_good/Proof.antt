@@ -2,7 +2,8 @@
 use mathlib.Core.Path.{_∙_, ap, ap₂, refl}
 use lib.Dec.{ltb}
 use Rattle.rules.specs.declared.Place.{Place}
-use Rattle.rules.specs.State.{Slice, liveAt}
+use Rattle.rules.specs.declared.Slice.{Slice}
+use Rattle.rules.specs.State.{liveAt}
 use Rattle.rules.specs.Sound.{inRange, spentGood}
 use Rattle.soundness.proofs.Clauses.{slice-test, place-test, both-test}
 use Rattle.soundness.proofs.each_turn.turn_good.Statement.{statement}

@@ -3,7 +3,8 @@ use mathlib.Core.Path.{_≡_}
 use mathlib.Core.List.{map}
 use Prim.Native.Nat.{_-_, _≤_}
 use lib.ListN.{length}
-use Rattle.rules.specs.State.{Slice, ownerAt}
+use Rattle.rules.specs.declared.Slice.{Slice}
+use Rattle.rules.specs.State.{ownerAt}
 use Rattle.tables.specs.Turning.{entriesOf}
 use Rattle.tables.specs.Timeslices.{sliceOf}
 use Rattle.soundness.proofs.Loops.{Mapped, none-mapped, one-mapped}

@@ -2,9 +2,9 @@
 use Prim.Native.Nat.{_-_}
 use native.Mathlib.Omega.{arith}
 use borrow.Author.Needs.{needs}
-use Rattle.soundness.proofs.Loops.{Counted, none-counted, one-counted, all-counted}
-use Rattle.soundness.proofs.stored_form.count_live.Statement.{statement}
-use Rattle.soundness.proofs.stored_form.count_live.Tie as tie
+use Rattle.tables.proofs.Counts.{Counted, none-counted, one-counted, all-counted}
+use Rattle.tables.proofs.lives.count_live.Statement.{statement}
+use Rattle.tables.proofs.lives.count_live.Tie as tie
 
 abbrev Inv-loop : tie.InvT-loop
 Inv-loop threads count₀ i₀ count i = Counted threads count i

@@ -1,8 +1,8 @@
 -- A live thread counts.
 use native.Mathlib.Numerals.{add-one}
 use borrow.Author.Needs.{needs}
-use Rattle.soundness.proofs.stored_form.one_more_if.Statement.{statement}
-use Rattle.soundness.proofs.stored_form.one_more_if.Tie as tie
+use Rattle.tables.proofs.lives.one_more_if.Statement.{statement}
+use Rattle.tables.proofs.lives.one_more_if.Tie as tie
 
 add-result : tie.Need-add-result
 add-result c = search needs
