@@ -1,7 +1,8 @@
 #!/usr/bin/env bash
 # command.sh KEY_PROGRAM
 #
-# The commands ./key and ./check themselves, in a copy with an rt that proves nothing: it "builds" by copying a program, and its `ci` says what it is told.
+# The commands ./key and ./check themselves, in a copy with an rt that proves nothing: it "builds" by copying KEY_PROGRAM or a program that
+# stands beside it, and its `ci` says what it is told.
 set -euo pipefail
 export LC_ALL=C
 [ $# -eq 1 ] || { echo "command.sh KEY_PROGRAM" >&2; exit 2; }
@@ -11,7 +12,7 @@ work=$(mktemp -d)
 trap 'rm -rf "$work"' EXIT
 repository="$work/the repository"
 outside="$work/another folder"
-mkdir -p "$repository/tests" "$outside/samples" "$work/bin" "$work/few"
+mkdir -p "$repository/tests" "$outside/samples" "$work/bin" "$work/few" "$work/built"
 cp -r "$here/../key" "$here/../check" "$here/../crates.txt" "$here/../samples" "$here/../tools" "$repository"
 ln -s "$repository/key" "$work/bin/first"
 ln -s first "$work/bin/key"
@@ -20,23 +21,27 @@ cp "$here/../samples/bridge" "$outside/samples/k1" # the name of another file in
 cp "$here/../samples/k1" "$outside/a file"
 for tool in bash env dirname readlink cat mktemp rm; do ln -s "$(command -v $tool)" "$work/few/$tool"; done
 
-# The programs that rt "builds" are $work/built and its neighbour of the key program; while $work/slow is there, proving does not end.
-cp "$program" "$work/built"
-encoder=$(dirname "$program")/list_to_file
+# The programs that rt "builds" are in $work/built; while $work/slow is there, proving does not end.
+originals() {
+    cp "$program" "$work/built/key"
+    cp "$(dirname "$program")"/{list_to_file,plain_key} "$work/built"
+}
+originals
 cat >"$work/bin/rt" <<END
 #!/bin/sh
 mkdir -p target/bin target/log target/stamp
-if [ "\$1" = ci ]; then cp "$work/built" target/bin/key; cp "$encoder" target/bin/list_to_file; cat "$work/ci"; exit "\$(cat "$work/ci.status")"; fi
+if [ "\$1" = ci ]; then cp "$work/built"/* target/bin; cp "$work/built"/* target/stamp; cat "$work/ci"; exit "\$(cat "$work/ci.status")"; fi
 [ ! -f "$work/refuse" ] || { echo "rt: key NOT PROVED"; exit 1; }
-[ ! -f target/stamp/key ] || exit 0
-echo failed >target/log/key.res
-: >target/log/key.say
-if [ -f "$work/slow" ]; then (exec sleep 1000) & echo \$! >"$work/prover"; wait; fi
-cp "$work/built" target/bin/key
-cp "$encoder" target/bin/list_to_file
-echo built >target/log/key.res
-echo stamp >target/stamp/key
-echo stamp >target/stamp/list_to_file
+shift
+for name; do
+    [ ! -f "target/stamp/\$name" ] || continue
+    echo failed >"target/log/\$name.res"
+    : >"target/log/\$name.say"
+    if [ -f "$work/slow" ]; then (exec sleep 1000) & echo \$! >"$work/prover"; wait; fi
+    cp "$work/built/\$name" target/bin
+    echo built >"target/log/\$name.res"
+    echo stamp >"target/stamp/\$name"
+done
 END
 chmod +x "$work/bin/rt"
 export PATH="$work/bin:$PATH"
@@ -58,6 +63,7 @@ run() { # WHAT STATUS COMMAND..
 }
 prints() { cmp -s "$work/out" "$1" || wrong "it printed $(head -c 300 "$work/out")"; } # FILE
 says() { grep -q -- "$1" "$work/err" || wrong "it did not say '$1' but '$(cat "$work/err")'"; }
+says_only() { [ "$(cat "$work/err")" = "$1" ] || wrong "it did not say '$1' but '$(cat "$work/err")'"; }
 says_nothing() { [ ! -s "$work/err" ] || wrong "it said $(cat "$work/err")"; }
 ends_in() { [[ $(tail -n 1 "$work/out") =~ $1 ]] || wrong "its last line is '$(tail -n 1 "$work/out")'"; } # PATTERN
 ends_not_in() { [[ ! $(tail -n 1 "$work/out") =~ $1 ]] || wrong "its last line is '$(tail -n 1 "$work/out")'"; }
@@ -65,6 +71,7 @@ ends_not_in() { [[ ! $(tail -n 1 "$work/out") =~ $1 ]] || wrong "its last line i
 timeout 10 "$program" <"$here/../samples/k1" >"$work/k1.key"
 timeout 10 "$program" <"$here/../samples/bridge" >"$work/bridge.key"
 { echo "a file"; cat "$work/k1.key"; } >"$work/under-its-name"
+{ cat "$work/under-its-name"; echo samples/k1; cat "$work/bridge.key"; } >"$work/two-under-their-names"
 echo "file 14" >"$work/file14"
 
 run "first use, through two links, from another folder" 0 key "a file"; prints "$work/k1.key"
@@ -84,7 +91,10 @@ run "a closed standard input" 1 bash -c 'key - <&-'
 run "a full device" 1 bash -c 'key "a file" >/dev/full'
 run "a closed standard output" 1 bash -c 'key "a file" >&-'
 run "wrong use" 2 key --none
+run "wrong use with --both" 2 key --both --none
+[ ! -e "$repository/target/bin/plain_key" ] || wrong "plain_key is built although nobody asked for it"
 run "help without rt" 0 env PATH="$work/few" "$repository/key" --help
+run "help, whatever stands before it" 0 env PATH="$work/few" "$repository/key" --both --help
 run "no rt" 1 env PATH="$work/few" "$repository/key" "a file"; says "rt"; [ "$(wc -l <"$work/err")" -eq 1 ] || wrong "not one sentence"
 
 head -c 1000 "$program" >"$repository/target/bin/key"
@@ -95,17 +105,54 @@ run "a missing program" 0 key "a file"; prints "$work/k1.key"
 run "not proved" 1 key "a file"; prints /dev/null; says "NOT PROVED"
 rm "$work/refuse"
 
-# A program that prints a key and does not end well.
-replace() { # LAST LINE
-    printf '#!/bin/sh\n"%s"\n%s\n' "$program" "$1" >"$work/built"
-    chmod +x "$work/built"
+# Both engines.
+run "both engines, an event file, first use of the second" 0 key --both "a file"; prints "$work/k1.key"; says "^key: a file: both engines agree$"
+run "both engines, unchanged" 0 key "a file" --both; prints "$work/k1.key"; says_only "key: a file: both engines agree"
+run "both engines, a list in words" 0 key --both "$repository/samples/bridge.txt"; prints "$work/bridge.key"
+says_only "key: $repository/samples/bridge.txt: both engines agree"
+run "both engines, standard input" 0 key --both - <samples/k1; prints "$work/bridge.key"; says_only "key: -: both engines agree"
+run "both engines, a refused file" 0 key --both - </dev/null; prints "$work/file14"; says_only "key: -: both engines agree"
+run "both engines, several files" 0 key --both "a file" samples/k1; prints "$work/two-under-their-names"
+says_only "key: a file: both engines agree
+key: samples/k1: both engines agree"
+run "samples without --both" 0 key; cp "$work/out" "$work/samples"; says_nothing
+run "both engines, samples" 0 key --both; prints "$work/samples"
+[ "$(grep -c ': both engines agree$' "$work/err")" -eq "$(ls "$repository/samples" | wc -l)" ] || wrong "it said $(cat "$work/err")"
+run "both engines, a list that cannot be read" 1 key --both "wrong list"; prints /dev/null; says_only "key: wrong list: line 3: no such event"
+run "both engines, a full device" 1 bash -c 'key --both "a file" >/dev/full'; says "a write failed"
+run "no option behind --" 1 key -- --both; says "^key: --both: no such file$"
+head -c 1000 "$program" >"$repository/target/bin/plain_key"
+run "a cut-off plain_key, not asked for" 0 key "a file"; prints "$work/k1.key"; says_nothing
+run "a cut-off plain_key" 0 key --both "a file"; prints "$work/k1.key"; says "building it again"
+
+# Instead of NAME a program that runs it, with more behind that.
+replace() { # NAME MORE
+    originals
+    printf '#!/bin/sh\n"%s/%s" %s\n' "$(dirname "$program")" "$1" "$2" >"$work/built/$1"
     rm -rf "$repository/target"
 }
-replace 'echo "cannot be written" >&2'
+replace key '; echo "cannot be written" >&2'
 run "a program that says something on standard error" 1 key "a file"; says "cannot be written"
-replace 'kill -SEGV $$'
+run "the same, with both engines" 1 key --both "a file"; prints /dev/null; says "a file: the program key ended with: cannot be written"
+replace key '; kill -SEGV $$'
 run "a program that crashes after printing" 1 key "a file"; says "status 139"
-cp "$program" "$work/built"
+replace plain_key '; echo "cannot be written" >&2'
+run "a plain_key that says something" 1 key --both "a file"; prints /dev/null; says "a file: the program plain_key ended with: cannot be written"
+run "the same, not asked for" 0 key "a file"; prints "$work/k1.key"; says_nothing
+replace plain_key '| sed "12s/0 1\$/0 2/"'
+run "a plain_key wrong in one line" 1 key --both samples/k1; prints /dev/null
+says_only "key: samples/k1: the engines differ, first in line 12, so no key is printed;\
+ its last column apart, key has '12 ok 0 11 0 1', plain_key '12 ok 0 11 0 2'"
+run "the same and a file that has no such line" 1 key --both samples/k1 "a file"
+{ echo samples/k1; cat "$work/under-its-name"; } >"$work/one-of-two"; prints "$work/one-of-two"; says "a file: both engines agree"
+replace plain_key '| sed \$d'
+run "a plain_key with one line too few" 1 key --both samples/k1; prints /dev/null; says "samples/k1: the engines differ, first in line 16,"
+run "the same, a refused file" 1 key --both - </dev/null; prints /dev/null; says "first in line 1,.* key has 'file 14'"
+replace plain_key '; echo 17 ok 0 0 0 0'
+run "a plain_key with one line too many" 1 key --both samples/k1; prints /dev/null; says "samples/k1: the engines differ, first in line 17,"
+replace plain_key '| head -c -1'
+run "a plain_key without its last byte" 1 key --both samples/k1; prints /dev/null; says "samples/k1: the engines differ, first in line 16,"
+originals
 rm -rf "$repository/target"
 
 # TERM while it proves; rt's own job must be gone.
@@ -144,6 +191,7 @@ ci 0 "rt: ok
 7 passed, 0 failed"
 run "check" 0 check; ends_in '^7 passed, 0 failed$'; [ "$(grep -c passed "$work/out")" -eq 1 ] || wrong "the tally is not printed once"
 run "check, then key" 0 key "a file"; says_nothing
+run "check, then key --both" 0 key --both "a file"; says_only "key: a file: both engines agree"
 for name in $names; do
     tests "$name"
     run "check with tests/$name.sh failing" 1 check; ends_not_in '0 failed$'; ends_in "tests/$name.sh"
@@ -157,6 +205,9 @@ ci 0 "rt: no tally"
 run "check without a tally" 1 check; ends_not_in '0 failed$'
 ci 0 "0 passed, 0 failed"
 run "check with nothing passed" 1 check; ends_not_in '0 failed$'
+rm "$work/built/plain_key" "$repository/target/bin/plain_key"
+ci 0 "7 passed, 0 failed"
+run "check with a program missing" 1 check; ends_in 'left no target/bin/plain_key$'
 run "check, wrong use" 2 check many
 run "check without rt" 1 env PATH="$work/few" "$repository/check"; ends_in 'rt'
 ln -s "$work/bin/rt" "$work/few/rt"

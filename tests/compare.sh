@@ -2,8 +2,8 @@
 # compare.sh KEY_PROGRAM [SEED] [COUNT]
 #
 # Makes event files of every kind and compares, byte for byte, the key that KEY_PROGRAM prints with that
-# of oracle/key.rs; and oracle/plain.rs with oracle/key.rs without its last column. COUNT is the number of
-# lively files; the other kinds go with it. The same seed gives the same files. Each run of KEY_PROGRAM has 10 seconds.
+# of oracle/key.rs; what plain_key, which stands beside it, prints with what oracle/plain.rs does; and oracle/plain.rs
+# with oracle/key.rs without its last column. COUNT is the number of lively files; the other kinds go with it. The same seed gives the same files. Each run of a program has 10 seconds.
 # Every kind of event must have every answer that it can have, and refill, remove and rank every effect that oracle/count.rs names;
 # with a COUNT below the default that is only said.
 #
@@ -13,6 +13,7 @@ export LC_ALL=C
 [ $# -ge 1 ] || { echo "compare.sh KEY_PROGRAM [SEED] [COUNT]" >&2; exit 2; }
 here=$(dirname "$(readlink -f "${BASH_SOURCE[0]}")")
 program=$(realpath -e "$1")
+plain=$(realpath -e "$(dirname "$program")/plain_key")
 . "$here/program.sh"
 seed=${2:-20261115}
 whole=900
@@ -77,30 +78,37 @@ done
 # An answer or effect that no file brings about is compared with nothing.
 ./count.run in want || [ "$count" -lt $whole ] || exit 1
 
-compared=0
-try() { # NAME, with its file on standard input
+try() { # NAME PROGRAM FOLDER ORACLE, with NAME's file on standard input; the key that is wanted is in FOLDER, from ORACLE
     local ended=0
-    key_to "got/$1" || ended=$?
-    if [ $ended -ne 0 ] || ! cmp -s "got/$1" "want/$1"; then
-        differ "$1" "got/$1" "want/$1" "$program" "key.rs"
+    key_to "got/$1" "$2" || ended=$?
+    if [ $ended -ne 0 ] || ! cmp -s "got/$1" "$3/$1"; then
+        differ "$1" "got/$1" "$3/$1" "$2" "$4"
         exit 1
     fi
 }
-for f in "${names[@]}"; do
-    if [ $SECONDS -ge "$limit" ]; then
-        echo "$compared of $total files compared, 0 differ, but no time left after $SECONDS s"
-        exit 2
-    fi
-    try "$f" <"in/$f"
-    compared=$((compared + 1))
-done
-for more in 1 100000; do
-    [ "$(cat "got/full-and-$more")" = "file 14" ] || { echo "$more bytes behind a file of 65,536 did not give 'file 14'"; exit 1; }
-done
-[ "$(wc -l <got/full-00000)" -gt 20000 ] || { echo "a file of 65,536 bytes has no whole key"; exit 1; }
+tally=
+all() { # PROGRAM FOLDER ORACLE
+    local f more compared=0
+    for f in "${names[@]}"; do
+        if [ $SECONDS -ge "$limit" ]; then
+            echo "$tally$compared of $total files compared by ${1##*/}, 0 differ, but no time left after $SECONDS s"
+            exit 2
+        fi
+        try "$f" "$@" <"in/$f"
+        compared=$((compared + 1))
+    done
+    for more in 1 100000; do
+        [ "$(cat "got/full-and-$more")" = "file 14" ] ||
+            { echo "${1##*/}: $more bytes behind a file of 65,536 did not give 'file 14'"; exit 1; }
+    done
+    [ "$(wc -l <got/full-00000)" -gt 20000 ] || { echo "${1##*/}: a file of 65,536 bytes has no whole key"; exit 1; }
 
-# Standard input may come in pieces: 2 bytes, 200 bytes, the rest.
-for f in full-00000 full-and-1 lively-00000 chain-00000; do
-    try "$f" < <(head -c 2 "in/$f"; sleep 0.1; head -c 202 "in/$f" | tail -c +3; sleep 0.1; tail -c +203 "in/$f")
-done
-echo "$compared files compared, 0 differ"
+    # Standard input may come in pieces: 2 bytes, 200 bytes, the rest.
+    for f in full-00000 full-and-1 lively-00000 chain-00000; do
+        try "$f" "$@" < <(head -c 2 "in/$f"; sleep 0.1; head -c 202 "in/$f" | tail -c +3; sleep 0.1; tail -c +203 "in/$f")
+    done
+    tally+="$compared files compared by ${1##*/}, "
+}
+all "$program" want key.rs
+all "$plain" plain plain.rs
+echo "${tally}0 differ"

@@ -1,7 +1,8 @@
 //! Times two programs on the same files: `timer RUNS PROGRAM OPPONENT FILE...`
 //!
 //! A run goes from starting the process, with the file on standard input and the key thrown away, to
-//! its end. The two take turns; the best of the runs counts. Nothing is subtracted.
+//! its end. The two take turns; the best of the runs counts. Nothing is subtracted. PROGRAM prints
+//! OPPONENT's key, or that without its last column, as the plain machine does.
 
 use std::fs::File;
 use std::process::{Command, Stdio};
@@ -10,6 +11,12 @@ use std::time::{Duration, Instant};
 fn output(program: &str, file: &str) -> Vec<u8> {
     let input = File::open(file).expect("the file");
     Command::new(program).stdin(input).output().expect("the program").stdout
+}
+
+fn without_last_column(key: &[u8]) -> Vec<u8> {
+    let text = String::from_utf8_lossy(key);
+    let short = |line: &str| line.rsplit_once(' ').map_or(line, |parts| parts.0).to_string() + "\n";
+    text.lines().map(short).collect::<String>().into_bytes()
 }
 
 fn run(program: &str, file: &str) -> Duration {
@@ -27,7 +34,8 @@ fn main() {
     println!("{:<19} {:>7} {:>11} {:>11} {:>7} {:>10} {:>10}", "", "", "ms", "ms", "", "ns/event", "ns/event");
     for file in &a[4..] {
         let key = output(opponent, file);
-        if output(program, file) != key {
+        let printed = output(program, file);
+        if printed != key && printed != without_last_column(&key) {
             eprintln!("{file}: the keys differ, no use in timing");
             std::process::exit(1);
         }

@@ -1,15 +1,14 @@
 -- The stored machine after an event's changes shows the state after them, and is stored.
 use Prim.Native.Nat.{ℕ, suc, _+_, _≤_, _<_}
-use mathlib.Core.Path.{_≡_, refl, sym, _∙_, ap, ap₂}
+use mathlib.Core.Path.{_≡_, refl, sym, _∙_, ap}
 use mathlib.Core.List.{List}
 use mathlib.Core.Bool.{true, false}
 use native.Mathlib.Omega.{arith}
 use native.Mathlib.Numerals.{add-one}
-use lib.ListN.{length, set}
+use lib.ListN.{length}
 use Rattle.rules.specs.declared.Role.{Role}
 use Rattle.rules.specs.declared.Hold.{Hold}
 use Rattle.rules.specs.declared.Hold.the-variants.{Ready, Idle, Blocked, Calling, Helping}
-use Rattle.rules.specs.declared.Service.the-variants.{Nobody}
 use Rattle.rules.specs.Sound.{isIdle}
 use Rattle.rules.specs.Events.{callDonates, callHelps, callAt}
 use Rattle.rules.specs.declared.Thread.{Thread}
@@ -17,7 +16,7 @@ use Rattle.rules.specs.declared.Chain.{Chain}
 use Rattle.rules.specs.declared.Running.{Running}
 use Rattle.rules.specs.State.{State, threadAt, liveThreads, withThreads, withRunning}
 use Rattle.rules.specs.Walk.{walk}
-use Rattle.rules.specs.Threads.{startsAs, created}
+use Rattle.rules.specs.Threads.{created}
 use Rattle.dispatcher.specs.declared.Machine.{Machine}
 use Rattle.dispatcher.specs.Shown.{shown, stored}
 use Rattle.dispatcher.specs.Choosing.{Choosable}

@@ -1,6 +1,3 @@
--- Why what is put is the key of the file, and why the two buffers suffice.
-pub mod Lengths
-pub mod Room
+-- Why what is put is the key of the file.
 pub mod Printing
 pub mod Keys
-pub mod Reading

@@ -11,10 +11,10 @@ mod lines;
 use event_file::reader::file_refusal;
 use text::put_file_line;
 
-// Room for the key of every file: `key-fits`, proofs/Room.antt.
+// Room for the key of every file: `key-fits`, in crate text.
 pub const ROOM: usize = 1048576;
 
-// One byte more than a file may have: `enough-read`, proofs/Reading.antt.
+// One byte more than a file may have: `enough-for-key`, in crate text.
 const INPUT: usize = 65537;
 
 fn zeros() -> [u8; INPUT]

@@ -7,7 +7,7 @@ use mathlib.Core.List.{List, [], _∷_, _++_}
 use mathlib.Core.Bool.{Bool, true, false, cond, not, _||_}
 use mathlib.Core.Option.{Option, none, some}
 use lib.ListN.{length, set, take}
-use lib.Seq.{take-suc-set, take-take, take-append-seam, length-take-le}
+use lib.Seq.{take-suc-set, take-take, take-append-seam}
 use lib.Dec.{ltb, eqb}
 use borrow.Author.Tests.{eqb-false, ltb-false, eq-eqb, ne-eqb, not-false}
 use Rattle.rules.specs.declared.Hold.{Hold}
@@ -35,7 +35,7 @@ use Rattle.rules.proofs.Order.Orders.{length-without}
 use Rattle.rules.proofs.Order.Owners.{own-listed}
 use Rattle.rules.proofs.Soundness.Shapes.{shape-of}
 use Rattle.tables.specs.Turning.{entriesOf, Turned, StruckOut}
-use Rattle.tables.proofs.Lookups.{entries-are, take-entries}
+use Rattle.tables.proofs.Lookups.{entries-are}
 use Rattle.plain_engine.specs.declared.PlainMachine.{PlainMachine}
 use Rattle.plain_engine.specs.Shown.{plainShown}
 use Rattle.plain_engine.specs.Changed.{Takes, Changed}

@@ -4,3 +4,4 @@ pub mod Judged
 pub mod Rounds
 pub mod Changes
 pub mod Offering
+pub mod Runs

@@ -1,12 +1,12 @@
 -- The answer, by what became of the event: not shaped, refused or accepted. What runs is the judging's alone, so leaving it to the judging
 -- gives the definition's machine.
 use Prim.Native.Nat.{ℕ, zero, suc}
-use mathlib.Core.Path.{_≡_, refl, sym, ap, _∙_}
-use mathlib.Core.Bool.{Bool, true, false}
+use mathlib.Core.Path.{_≡_, refl, ap, _∙_}
+use mathlib.Core.Bool.{true, false}
 use Rattle.rules.specs.declared.Event.{Event}
 use Rattle.rules.specs.Sound.{shaped}
 use Rattle.rules.specs.Refusals.{refusal}
-use Rattle.rules.specs.Plain.{judge, update, PlainAnswered, plainOfferAfter, plainOffer, plainOfferIf}
+use Rattle.rules.specs.Plain.{judge, update, plainOfferAfter, plainOffer, plainOfferIf}
 use Rattle.rules.proofs.JudgingAnew.{judge-anew}
 use Rattle.plain_engine.specs.declared.PlainMachine.{PlainMachine}
 use Rattle.plain_engine.specs.declared.Answered.{Answered}

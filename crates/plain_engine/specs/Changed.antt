@@ -1,5 +1,4 @@
 -- An accepted event's changes to the plain engine's machine, before the judging.
-use Prim.Native.Nat.{ℕ}
 use mathlib.Core.Path.{_≡_}
 use mathlib.Core.Bool.{true}
 use Rattle.rules.specs.declared.Event.{Event}

@@ -1,6 +1,6 @@
 -- What ran before an accepted event does not matter to the judging after it: every retry leaves an Idle thread less and there are no more
 -- Idle threads than live ones, so the judging comes to an end before its rounds do, and the end says what runs.
-use Prim.Native.Nat.{ℕ, zero, suc, _+_, _-_, _≤_, _<_}
+use Prim.Native.Nat.{ℕ, zero, suc, _-_, _≤_, _<_}
 use native.Mathlib.Omega.{arith}
 use mathlib.Core.Path.{_≡_, refl, sym, ap, _∙_}
 use mathlib.Core.List.{List, [], _∷_}

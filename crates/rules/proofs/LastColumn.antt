@@ -18,6 +18,11 @@ use Rattle.rules.specs.Key.{shortLines, shortKeyAfter, shortKey, plainKe
 use Rattle.rules.proofs.Basics.Views.{and-false-right}
 use Rattle.rules.proofs.Demands.{columns-plain}
 
+-- a key of two lines, computed
+two-lines : withoutLast (bytes "1 ok 0 - - 0 0\n12 no 9 3 5 1 16\n") ≡ bytes "1 ok 0 - - 0\n12 no 9 3 5 1\n"
+unfolding bytes noSpaceLeft withoutLastFrom
+two-lines = refl
+
 -- THE BYTES THAT DO NOT STAND IN A LIST. c is a line feed (10) or a space (32).
 data Without (c : ℕ) : List ℕ → Type 0 where
   none : Without c []

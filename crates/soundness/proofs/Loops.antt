@@ -8,11 +8,10 @@ use native.Mathlib.Omega.{arith}
 use native.Mathlib.Numerals.{add-one}
 use native.Mathlib.Nat.{eq-or-lt-of-le}
 use mathlib.Core.Logic.{⊎-elim}
-use lib.ListN.{length, getD, set, take, drop, replicate, length-set, length-map, length-append, length-replicate, drop-of-length-le}
-use lib.Seq.{drop-cons, take-suc, append-snoc, length-take-le, set-at, take-at}
-use Rattle.rules.specs.declared.Thread.{Thread}
+use lib.ListN.{length, getD, set, take, drop, replicate, length-set, length-map, length-append, length-replicate}
+use lib.Seq.{take-suc, append-snoc, length-take-le, set-at, take-at}
 use Rattle.rules.specs.Tests.{member, distinct, all, below}
-use Rattle.rules.specs.State.{limit, freeThread, threadAt, liveThreads, oneMoreIf}
+use Rattle.rules.specs.State.{limit}
 use Rattle.rules.proofs.Basics.Views.{and-true-both, and-false-right}
 use Rattle.tables.specs.Turning.{entriesOf}
 use Rattle.tables.proofs.Lookups.{take-entries}

@@ -1,5 +1,8 @@
--- The laws of text put into a lent buffer.
+-- The laws of text put into a lent buffer, and why the buffers of the programs that print keys suffice.
 pub mod Puts
 pub mod Decimals
 pub mod DigitCounts
 pub mod ColumnParts
+pub mod Lengths
+pub mod Room
+pub mod Enough

@@ -4,7 +4,7 @@ use native.Mathlib.Omega.{arith}
 use mathlib.Core.Path.{sym, _∙_}
 use denote.Ref.{now}
 use Rattle.text.proofs.Puts.{at-front, reading}
-use Rattle.key_sheet.proofs.Room.{key-fits}
+use Rattle.text.proofs.Room.{key-fits}
 use Rattle.key_sheet.proofs.Keys.{refused-key, accepted-key}
 use Rattle.key_sheet.proofs.write_key.Statement.{statement}
 use Rattle.key_sheet.proofs.write_key.Tie as tie

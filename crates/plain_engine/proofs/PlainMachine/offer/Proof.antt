@@ -31,8 +31,8 @@ returns-3 c =
     let tested = numbered .before in
     let shape = sym (tested .before .is-shaped .ensures) ∙ not-false _ (tested .if1 .left) in
     let none-fits = sym (numbered .refusal .ensures) ∙ changed .before .if2 .left in
-    accepted _ _ _ (changed .updated .result) (c .before .judged .result) (c .answered3 .ensures) (record { shape = shape; accepted = none-fits }) (changed .updated .ensures)
-    (c .before .judged .ensures)
+    accepted _ _ _ (changed .updated .result) (c .before .judged .result) (c .answered3 .ensures)
+    (record { shape = shape; accepted = none-fits }) (changed .updated .ensures) (c .before .judged .ensures)
 
 pub offer-spec : {M : Type 1} → statement M
 offer-spec =

@@ -12,7 +12,8 @@ returns c =
     let tested = c .before .before in
     let read = tested .before in
     let told = read .before .before .before in
-    let idle = sym (ap (λ (t : Thread). isIdle (t .hold)) (read .thread-at .ensures)) ∙ sym (tested .is-idle .ensures) ∙ c .before .if1 .taken in
+    let held = ap (λ (t : Thread). isIdle (t .hold)) (read .thread-at .ensures) in
+    let idle = sym held ∙ sym (tested .is-idle .ensures) ∙ c .before .if1 .taken in
     call-donates (told .before .before .args .self) _ _ _ (told .running .given .1) _ _ idle (c .donated .ensures)
 
 returns-2 : tie.Need-returns-2
@@ -23,7 +24,8 @@ returns-3 c =
     let tested = c .before .before in
     let read = tested .before in
     let told = read .before .before .before in
-    let busy = sym (ap (λ (t : Thread). isIdle (t .hold)) (read .thread-at .ensures)) ∙ sym (tested .is-idle .ensures) ∙ c .before .if1 .left in
+    let held = ap (λ (t : Thread). isIdle (t .hold)) (read .thread-at .ensures) in
+    let busy = sym held ∙ sym (tested .is-idle .ensures) ∙ c .before .if1 .left in
     call-helps (told .before .before .args .self) _ _ _ (told .running .given .1) _ _ busy (c .with-hold .ensures)
 
 pub updated-call-spec : {M : Type 1} → statement M

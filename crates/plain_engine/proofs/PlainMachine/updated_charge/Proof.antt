@@ -25,16 +25,16 @@ returns-2 c =
     let told = read .before .before .before in
     let start = told .before .before in
     let m = start .args .self in
-    charge-depletes m _ _ _ (told .running .given .1) _ _ (read .slice-at .ensures) _ (stored .with-slice .ensures) _ (c .before .before .if1 .taken)
-    (charge-listed m _ _ _ (told .running .given .1) _ (start .pre)) (c .to-back .ensures)
+    charge-depletes m _ _ _ (told .running .given .1) _ _ (read .slice-at .ensures) _ (stored .with-slice .ensures) _
+    (c .before .before .if1 .taken) (charge-listed m _ _ _ (told .running .given .1) _ (start .pre)) (c .to-back .ensures)
 
 returns-3 : tie.Need-returns-3
 returns-3 c =
     let stored = c .before .before in
     let read = stored .before .before in
     let told = read .before .before .before in
-    charge-spends (told .before .before .args .self) _ _ _ (told .running .given .1) _ _ (read .slice-at .ensures) _ (stored .with-slice .ensures)
-    (c .if1 .left)
+    let m = told .before .before .args .self in
+    charge-spends m _ _ _ (told .running .given .1) _ _ (read .slice-at .ensures) _ (stored .with-slice .ensures) (c .if1 .left)
 
 pub updated-charge-spec : {M : Type 1} → statement M
 updated-charge-spec =

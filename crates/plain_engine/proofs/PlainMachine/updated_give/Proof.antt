@@ -3,7 +3,6 @@ use mathlib.Core.Path.{_≡_}
 use Prim.Native.Nat.{_<_}
 use lib.ListN.{length, length-map}
 use native.Mathlib.Omega.{arith}
-use borrow.Author.Needs.{needs}
 use Rattle.plain_engine.proofs.Changes.{give-room, give-changes}
 use Rattle.plain_engine.proofs.PlainMachine.updated_give.Statement.{statement}
 use Rattle.plain_engine.proofs.PlainMachine.updated_give.Tie as tie

@@ -19,7 +19,8 @@ returns : tie.Need-returns
 returns c =
     let found = c .before .before in
     let gone = found .before .before .before in
-    remove-none (gone .before .before .args .self) _ _ _ (gone .removed .ensures) (found .own .ensures) (ap soughtOf (c .enum-told .given .1))
+    remove-none (gone .before .before .args .self) _ _ _ (gone .removed .ensures) (found .own .ensures)
+    (ap soughtOf (c .enum-told .given .1))
 
 returns-2 : tie.Need-returns-2
 returns-2 c =

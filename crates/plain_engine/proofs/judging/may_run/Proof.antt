@@ -1,5 +1,4 @@
 -- The chain is that of the timeslice's owner.
-use mathlib.Core.Path.{_∙_}
 use Rattle.plain_engine.proofs.judging.may_run.Statement.{statement}
 use Rattle.plain_engine.proofs.judging.may_run.Tie as tie
 

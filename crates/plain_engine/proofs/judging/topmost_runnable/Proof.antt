@@ -49,5 +49,5 @@ returns c =
 pub topmost-runnable-spec : {M : Type 1} → statement M
 topmost-runnable-spec =
     tie.close
-    (tie.spec Inv-loop μ-loop (λ _ _. tt) loop-holds sub-i array-read-t (λ _ _. tt) (λ _ _. tt) loop-less loop-again loop-less-2 loop-again-2
-    returns)
+    (tie.spec Inv-loop μ-loop (λ _ _. tt) loop-holds sub-i array-read-t (λ _ _. tt) (λ _ _. tt) loop-less loop-again loop-less-2
+    loop-again-2 returns)

@@ -2,7 +2,6 @@
 use mathlib.Core.Path.{refl}
 use borrow.Author.Needs.{needs}
 use borrow.Author.Tests.{lt-ltb, le-ltb}
-use Rattle.rules.specs.declared.Slice.{Slice}
 use Rattle.plain_engine.proofs.judging.upper.Statement.{statement}
 use Rattle.plain_engine.proofs.judging.upper.Tie as tie
 
@@ -10,7 +9,7 @@ returns : tie.Need-returns
 returns c =
     let second = c .before .before .before in
     let first = second .before in
-    rw (first .before .before .later .given .1, ← first .slice-at .ensures, ← second .slice-at2 .ensures, lt-ltb _ _ (c .if1 .taken)) refl
+    rw (first .before .before .later .given .1, ← first .slice-at .ensures, ← second .slice-at2 .ensures, lt-ltb _ _ (c .if1 .taken))
 
 returns-2 : tie.Need-returns-2
 returns-2 c = rw (c .enum-told .given .1) refl
@@ -19,7 +18,7 @@ returns-3 : tie.Need-returns-3
 returns-3 c =
     let second = c .before .before .before in
     let first = second .before in
-    rw (first .before .before .later .given .1, ← first .slice-at .ensures, ← second .slice-at2 .ensures, le-ltb _ _ (c .if1 .left)) refl
+    rw (first .before .before .later .given .1, ← first .slice-at .ensures, ← second .slice-at2 .ensures, le-ltb _ _ (c .if1 .left))
 
 pub upper-spec : {M : Type 1} → statement M
 upper-spec =

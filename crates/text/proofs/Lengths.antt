@@ -7,9 +7,9 @@ use lib.ListN.{length, length-append}
 use Rattle.rules.specs.declared.Running.{Running}
 use Rattle.rules.specs.declared.Running.the-variants.{Nothing, Runs}
 use Rattle.rules.specs.Events.{Answered}
-use Rattle.rules.specs.Key.{bytes, decimal, verdictWord, runningColumns, columns, line, lines}
+use Rattle.rules.specs.Key.{bytes, verdictWord, runningColumns, columns, line, lines}
 use Rattle.rules.proofs.Bounds.{RunsNarrow, Narrow, AllNarrow}
 use Rattle.text.proofs.DigitCounts.{three-long, five-long}
 
 -- the columns of an answer of narrow numbers
 running-length : (r : Running) → RunsNarrow r → length (runningColumns r) ≤ 11

@@ -1,0 +1,45 @@
+-- THE THEOREM of the input: one byte more than is allowed is enough of any input, because a longer one is refused by its length alone.
+use Prim.Native.Nat.{ℕ, _≤_, _<_}
+use native.Mathlib.Omega.{arith}
+use mathlib.Core.Path.{_≡_, sym, ap, _∙_}
+use mathlib.Core.List.{List}
+use lib.Dec.{ltb}
+use lib.ListN.{length, take}
+use lib.Seq.{take-all, length-take-le}
+use borrow.Author.Tests.{ltb-true, ltb-false}
+use Rattle.rules.specs.Key.{fileLine, key, plainKey}
+use Rattle.rules.proofs.Basics.Views.{Two, yes-true, no-false, two}
+use Rattle.rules.proofs.Files.Refusing.{refuses-long}
+
+module _ {A : Type 0} (f : List ℕ → A) (most : ℕ) where
+  -- a function that a list cut off after more than `most` elements answers as the whole needs no more than one element more
+  pub enough : ((b : List ℕ) (n : ℕ) → most < n → n ≤ length b → f (take n b) ≡ f b) → (n : ℕ) → most < n → (b : List ℕ)
+      → f (take n b) ≡ f b
+  enough long n more b = by (two (ltb (length b) n))
+    where
+      by : Two (ltb (length b) n) → f (take n b) ≡ f b
+      by (yes-true h) =
+          let short : length b < n = ltb-true (length b) n h in
+          ap f (take-all n b (omega arith))
+      by (no-false h) = long b n more (ltb-false (length b) n h)
+
+  -- nor does one that gives one answer to all lists with more than `most` elements
+  pub enough-for-one : (a : A) → ((b : List ℕ) → most < length b → f b ≡ a) → (n : ℕ) → most < n → (b : List ℕ) → f (take n b) ≡ f b
+  enough-for-one a long =
+      enough (λ b n more fits. long (take n b) (omega (arith, length-take-le n b fits)) ∙ sym (long b (omega arith)))
+
+-- a file of more than 65,536 bytes is refused, and its key is that refusal's line
+long-key : (file : List ℕ) → 65536 < length file → key file ≡ fileLine 14
+unfolding key
+long-key file h = rw (refuses-long file h)
+
+long-plain-key : (file : List ℕ) → 65536 < length file → plainKey file ≡ fileLine 14
+unfolding plainKey
+long-plain-key file h = rw (refuses-long file h)
+
+-- so what follows the first 65,537 bytes changes nothing
+pub enough-for-key : (n : ℕ) → 65536 < n → (b : List ℕ) → key (take n b) ≡ key b
+enough-for-key = enough-for-one key 65536 (fileLine 14) long-key
+
+pub enough-for-plain-key : (n : ℕ) → 65536 < n → (b : List ℕ) → plainKey (take n b) ≡ plainKey b
+enough-for-plain-key = enough-for-one plainKey 65536 (fileLine 14) long-plain-key
