@@ -106,7 +106,8 @@ run "not proved" 1 key "a file"; prints /dev/null; says "NOT PROVED"
 rm "$work/refuse"
 
 # Both engines.
-run "both engines, an event file, first use of the second" 0 key --both "a file"; prints "$work/k1.key"; says "^key: a file: both engines agree$"
+run "both engines, an event file, first use of the second" 0 key --both "a file"; prints "$work/k1.key"
+says "^key: a file: both engines agree$"
 run "both engines, unchanged" 0 key "a file" --both; prints "$work/k1.key"; says_only "key: a file: both engines agree"
 run "both engines, a list in words" 0 key --both "$repository/samples/bridge.txt"; prints "$work/bridge.key"
 says_only "key: $repository/samples/bridge.txt: both engines agree"
@@ -118,7 +119,8 @@ key: samples/k1: both engines agree"
 run "samples without --both" 0 key; cp "$work/out" "$work/samples"; says_nothing
 run "both engines, samples" 0 key --both; prints "$work/samples"
 [ "$(grep -c ': both engines agree$' "$work/err")" -eq "$(ls "$repository/samples" | wc -l)" ] || wrong "it said $(cat "$work/err")"
-run "both engines, a list that cannot be read" 1 key --both "wrong list"; prints /dev/null; says_only "key: wrong list: line 3: no such event"
+run "both engines, a list that cannot be read" 1 key --both "wrong list"; prints /dev/null
+says_only "key: wrong list: line 3: no such event"
 run "both engines, a full device" 1 bash -c 'key --both "a file" >/dev/full'; says "a write failed"
 run "no option behind --" 1 key -- --both; says "^key: --both: no such file$"
 head -c 1000 "$program" >"$repository/target/bin/plain_key"
@@ -137,7 +139,8 @@ run "the same, with both engines" 1 key --both "a file"; prints /dev/null; says 
 replace key '; kill -SEGV $$'
 run "a program that crashes after printing" 1 key "a file"; says "status 139"
 replace plain_key '; echo "cannot be written" >&2'
-run "a plain_key that says something" 1 key --both "a file"; prints /dev/null; says "a file: the program plain_key ended with: cannot be written"
+run "a plain_key that says something" 1 key --both "a file"; prints /dev/null
+says "a file: the program plain_key ended with: cannot be written"
 run "the same, not asked for" 0 key "a file"; prints "$work/k1.key"; says_nothing
 replace plain_key '| sed "12s/0 1\$/0 2/"'
 run "a plain_key wrong in one line" 1 key --both samples/k1; prints /dev/null

@@ -1,13 +1,14 @@
 #!/usr/bin/env bash
 # compare.sh KEY_PROGRAM [SEED] [COUNT]
 #
-# Makes event files of every kind and compares, byte for byte, the key that KEY_PROGRAM prints with that
-# of oracle/key.rs; what plain_key, which stands beside it, prints with what oracle/plain.rs does; and oracle/plain.rs
-# with oracle/key.rs without its last column. COUNT is the number of lively files; the other kinds go with it. The same seed gives the same files. Each run of a program has 10 seconds.
+# Makes event files of every kind and compares, byte for byte, the key that KEY_PROGRAM prints with that of oracle/key.rs; what
+# plain_key, which stands beside it, prints with what oracle/plain.rs does; and oracle/plain.rs with oracle/key.rs without its last
+# column. COUNT is the number of lively files; the other kinds go with it. The same seed gives the same files. Each run of a program
+# has 10 seconds.
 # Every kind of event must have every answer that it can have, and refill, remove and rank every effect that oracle/count.rs names;
 # with a COUNT below the default that is only said.
 #
-# Exit status: 0 all equal, 1 a difference or something that never occurs, 2 wrong use or no time left (COMPARE_SECONDS, default 60).
+# Exit status: 0 all equal, 1 a difference or something that never occurs, 2 wrong use or no time left (COMPARE_SECONDS, default 180).
 set -euo pipefail
 export LC_ALL=C
 [ $# -ge 1 ] || { echo "compare.sh KEY_PROGRAM [SEED] [COUNT]" >&2; exit 2; }
@@ -18,7 +19,7 @@ plain=$(realpath -e "$(dirname "$program")/plain_key")
 seed=${2:-20261115}
 whole=900
 count=${3:-$whole}
-limit=${COMPARE_SECONDS:-60}
+limit=${COMPARE_SECONDS:-180}
 work=$(mktemp -d)
 trap 'rm -rf "$work"' EXIT
 cd "$work"
