@@ -1,7 +1,7 @@
 -- What is proved about the definitions of specs/. Demands.antt has the theorems about the machines, Files/Inverse.antt those about event
 -- files; MarkedSequences.antt has K1 to K11, Depletion.antt what a Spent timeslice is, Removal.antt that freed numbers are free,
--- Ranking.antt what a rank leaves. LastColumn.antt has the plain machine's key as bytes, WithoutPlaces.antt that it never refuses with 1, and
--- JudgingAnew.antt that what ran before an event does not matter to its judging.
+-- Ranking.antt what a rank leaves. LastColumn.antt has the plain machine's key as bytes, WithoutPlaces.antt that it never refuses with 1,
+-- and JudgingAnew.antt that what ran before an event does not matter to its judging.
 pub mod Computing
 pub mod MarkedSequences
 pub mod Basics
@@ -18,6 +18,7 @@ pub mod Demands
 pub mod LastColumn
 pub mod WithoutPlaces
 pub mod Judging
+pub mod Idlers
 pub mod JudgingAnew
 pub mod Depletion
 pub mod Removal
