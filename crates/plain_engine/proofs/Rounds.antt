@@ -3,8 +3,11 @@ use Prim.Native.Nat.{ℕ, suc, _+_, _-_, _<_}
 use native.Mathlib.Omega.{arith}
 use native.Mathlib.Numerals.{add-one}
 use mathlib.Core.Path.{_≡_, sym, ap, ap₂, _∙_}
-use mathlib.Core.List.{List}
+use mathlib.Core.List.{List, [], _∷_}
+use mathlib.Core.Logic.{⊎-elim}
 use mathlib.Core.Option.{Option, none, some}
+use types.Run.{OneOf}
+use denote.Enum.Declared.{tagOf}
 use Rattle.rules.specs.declared.Chain.{Chain}
 use Rattle.rules.specs.declared.Running.the-variants.{Nothing, Runs}
 use Rattle.rules.specs.declared.Thread.{Thread}
@@ -13,6 +16,10 @@ use Rattle.rules.specs.declared.Slice.{Slice}
 use Rattle.rules.specs.Walk.{walk, chainOf, verdict, Verdict, runs, retries, waits, stalls}
 use Rattle.rules.specs.Threads.{donate}
 use Rattle.rules.specs.Plain.{plainRunning, judgeBy, judgeTop, topmostRunnable, judgeFrom, judge}
+use Rattle.tables.specs.declared.ends.Verdict.{Verdict as Said}
+use Rattle.tables.specs.declared.ends.Verdict.the-variants.{Runs as RunsNow, Retries, Waits, Stalls}
+use Rattle.tables.specs.Verdicts.{verdictOf}
+use Rattle.tables.proofs.ends.Verdict.{the-type}
 use Rattle.plain_engine.specs.declared.PlainMachine.{PlainMachine}
 use Rattle.plain_engine.specs.Shown.{plainShown}
 
@@ -62,8 +69,9 @@ module _ {all : Plain} (rounds : ℕ) (m : PlainMachine) (j : Judging all rounds
         → Judging all (rounds - 1) (threadsTo ths m)
     one-retries ths s new = ap (λ (l : List Thread). judgeFrom (rounds - 1) (plainShown (threadsTo l m))) new ∙ by retries s
 
-    pub one-waits : v ≡ waits → plainShown m ≡ all
-    one-waits s = by waits s
-
-    pub one-stalls : v ≡ stalls → plainShown m ≡ all
-    one-stalls s = by stalls s
+    -- it does not arise, since the topmost may run
+    pub one-stays : (f : Said) → OneOf (2 ∷ 3 ∷ []) (tagOf the-type f) → v ≡ verdictOf f → plainShown m ≡ all
+    one-stays RunsNow k s = absurd (⊎-elim (λ q. omega arith) (λ q. omega arith) k)
+    one-stays Retries k s = absurd (⊎-elim (λ q. omega arith) (λ q. omega arith) k)
+    one-stays Waits k s = by waits s
+    one-stays Stalls k s = by stalls s

@@ -129,10 +129,7 @@ impl PlainMachine {
                             let next = donated(threads, chain.helper, chain.end);
                             self.threads = next;
                         }
-                        Verdict::Waits => {
-                            return self;
-                        }
-                        Verdict::Stalls => {
+                        Verdict::Waits | Verdict::Stalls => {
                             return self;
                         }
                     }

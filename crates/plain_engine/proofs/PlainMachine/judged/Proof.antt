@@ -1,12 +1,12 @@
 -- Each round is one of the definition's, from the machine that the last one left.
-use mathlib.Core.Path.{ap, _∙_}
+use mathlib.Core.Path.{refl, ap, _∙_}
 use native.Mathlib.Omega.{arith}
 use borrow.Author.Needs.{needs}
 use Rattle.rules.specs.Plain.{judge}
 use Rattle.tables.specs.Sets.{soughtOf}
 use Rattle.tables.specs.Verdicts.{verdictOf}
 use Rattle.plain_engine.specs.Shown.{plainShown}
-use Rattle.plain_engine.proofs.Rounds.{Judging, begin, out, nothing-runs, one-runs, one-retries, one-waits, one-stalls}
+use Rattle.plain_engine.proofs.Rounds.{Judging, begin, out, nothing-runs, one-runs, one-retries, one-stays}
 use Rattle.plain_engine.proofs.PlainMachine.judged.Statement.{statement}
 use Rattle.plain_engine.proofs.PlainMachine.judged.Tie as tie
 
@@ -74,42 +74,23 @@ loop-again c =
     (ap soughtOf (top .top .given .1)) _ (read .slice-at .ensures) _ (walked .chain-from .ensures) _ (judged .verdict-of .ensures)
     _ (ap verdictOf (c .before .enum-told3 .given .1)) (c .donated .ensures)
 
-enum-told-4 : tie.Need-enum-told-4 Inv-loop μ-loop
-enum-told-4 c = search needs
-
 returns-3 : tie.Need-returns-3 Inv-loop μ-loop
 returns-3 c =
-    let judged = c .before .before in
+    let judged = c .before in
     let walked = judged .before in
     let read = walked .before in
     let top = read .before .before in
     let searched = top .before .before in
     let turn = searched .before .before .before .before in
-    one-waits _ (turn .before .loop .self) (turn .before .loop .inv) (turn .loop-test .taken) _ (searched .topmost-runnable .ensures) _
+    one-stays _ (turn .before .loop .self) (turn .before .loop .inv) (turn .loop-test .taken) _ (searched .topmost-runnable .ensures) _
     (ap soughtOf (top .top .given .1)) _ (read .slice-at .ensures) _ (walked .chain-from .ensures) _ (judged .verdict-of .ensures)
-    (ap verdictOf (c .enum-told4 .given .1))
-
-enum-told-5 : tie.Need-enum-told-5 Inv-loop μ-loop
-enum-told-5 c = search needs
+    (judged .verdict-of .result) (c .match2 .keys3) refl
 
 returns-4 : tie.Need-returns-4 Inv-loop μ-loop
-returns-4 c =
-    let judged = c .before .before in
-    let walked = judged .before in
-    let read = walked .before in
-    let top = read .before .before in
-    let searched = top .before .before in
-    let turn = searched .before .before .before .before in
-    one-stalls _ (turn .before .loop .self) (turn .before .loop .inv) (turn .loop-test .taken) _ (searched .topmost-runnable .ensures) _
-    (ap soughtOf (top .top .given .1)) _ (read .slice-at .ensures) _ (walked .chain-from .ensures) _ (judged .verdict-of .ensures)
-    (ap verdictOf (c .enum-told5 .given .1))
-
-returns-5 : tie.Need-returns-5 Inv-loop μ-loop
-returns-5 c = out _ (c .before .loop .self) (c .before .loop .inv) (omega (arith, c .loop-test .left))
+returns-4 c = out _ (c .before .loop .self) (c .before .loop .inv) (omega (arith, c .loop-test .left))
 
 pub judged-spec : {M : Type 1} → statement M
 judged-spec =
     tie.close
     (tie.spec Inv-loop μ-loop (λ _ _. tt) (λ _ _. tt) add-rounds loop-holds sub-rounds (λ _ _. tt) enum-told returns enum-known-top
-    (λ _ _. tt) (λ _ _. tt) (λ _ _. tt) enum-told-2 returns-2 enum-told-3 (λ _ _. tt) loop-less loop-again enum-told-4 returns-3
-    enum-told-5 returns-4 returns-5)
+    (λ _ _. tt) (λ _ _. tt) (λ _ _. tt) enum-told-2 returns-2 enum-told-3 (λ _ _. tt) loop-less loop-again returns-3 returns-4)
