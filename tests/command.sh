@@ -24,7 +24,7 @@ for tool in bash env dirname readlink cat mktemp rm; do ln -s "$(command -v $too
 # The programs that rt "builds" are in $work/built; while $work/slow is there, proving does not end.
 originals() {
     cp "$program" "$work/built/key"
-    cp "$(dirname "$program")"/{list_to_file,plain_key} "$work/built"
+    cp "$(dirname "$program")"/{list_to_file,plain_key,reason,file_to_list} "$work/built"
 }
 originals
 cat >"$work/bin/rt" <<END
@@ -62,6 +62,7 @@ run() { # WHAT STATUS COMMAND..
     [ $ended -eq "$expected" ] || wrong "status $ended, not $expected; it said: $(cat "$work/out" "$work/err")"
 }
 prints() { cmp -s "$work/out" "$1" || wrong "it printed $(head -c 300 "$work/out")"; } # FILE
+prints_lines() { printf '%s\n' "$@" >"$work/lines"; prints "$work/lines"; } # LINE..
 says() { grep -q -- "$1" "$work/err" || wrong "it did not say '$1' but '$(cat "$work/err")'"; }
 says_only() { [ "$(cat "$work/err")" = "$1" ] || wrong "it did not say '$1' but '$(cat "$work/err")'"; }
 says_nothing() { [ ! -s "$work/err" ] || wrong "it said $(cat "$work/err")"; }
@@ -92,7 +93,9 @@ run "a full device" 1 bash -c 'key "a file" >/dev/full'
 run "a closed standard output" 1 bash -c 'key "a file" >&-'
 run "wrong use" 2 key --none
 run "wrong use with --both" 2 key --both --none
-[ ! -e "$repository/target/bin/plain_key" ] || wrong "plain_key is built although nobody asked for it"
+for name in plain_key reason file_to_list; do
+    [ ! -e "$repository/target/bin/$name" ] || wrong "$name is built although nobody asked for it"
+done
 run "help without rt" 0 env PATH="$work/few" "$repository/key" --help
 run "help, whatever stands before it" 0 env PATH="$work/few" "$repository/key" --both --help
 run "no rt" 1 env PATH="$work/few" "$repository/key" "a file"; says "rt"; [ "$(wc -l <"$work/err")" -eq 1 ] || wrong "not one sentence"
@@ -127,6 +130,70 @@ head -c 1000 "$program" >"$repository/target/bin/plain_key"
 run "a cut-off plain_key, not asked for" 0 key "a file"; prints "$work/k1.key"; says_nothing
 run "a cut-off plain_key" 0 key --both "a file"; prints "$work/k1.key"; says "building it again"
 
+# The reason. Here samples/k1 is the bridge, whose timeslice 0 stands above timeslice 1 while thread 0 is blocked.
+why=("8 call 10" "1 10" "0 thread 0")
+rm -rf "$repository/target"
+run "a reason, an event file, first use" 0 key --why 8 samples/k1; prints_lines "${why[@]}"
+[ ! -e "$repository/target/bin/key" ] || wrong "key is built although nobody asked for it"
+run "a reason, unchanged" 0 key samples/k1 --why 8; prints_lines "${why[@]}"; says_nothing
+run "a reason, a list in words" 0 key --why 8 "$repository/samples/bridge.txt"; prints_lines "${why[@]}"; says_nothing
+run "a reason, standard input" 0 key --why 8 - <samples/k1; prints_lines "${why[@]}"; says_nothing
+run "a reason, words on standard input" 0 key --why 8 - <"$repository/samples/bridge.txt"; prints_lines "${why[@]}"; says_nothing
+printf '# line 1\n\ncreate 0 client\n  give  007 0 40 0100 # line 4, and event 2\n' >"loose list"
+run "a reason, events are counted, not lines" 0 key --why 2 "loose list"; prints_lines "2 give 7 0 40 100" 0
+run "a reason, of the first event" 0 key --why 1 samples/k1; prints_lines "1 create 0 client" -
+run "a reason, of the last event" 0 key --why 16 samples/k1; prints_lines "16 block" 1 "0 thread 0"
+for number in 0 17 264 65544 16777224 4294967295; do # four of them end in the byte 8
+    run "a reason, no event $number" 0 key --why $number samples/k1; prints_lines "file 19"; says_nothing
+done
+run "a reason, several files, one without that event" 0 key --why 8 "a file" samples/k1
+prints_lines "a file" "file 19" samples/k1 "${why[@]}"; says_nothing
+run "a reason, a missing file among others" 1 key --why 8 none samples/k1; prints_lines samples/k1 "${why[@]}"
+says_only "key: none: no such file"
+# README's example: the command, and indented below it what it prints.
+mapfile -t example < <(awk '/^    \.\/key --why / { on = 1 } /^[^ ]/ { on = 0 } on && NF { sub(/^ */, ""); print }' "$here/../README.md")
+run "README's example of a reason" 0 env -C "$repository" bash -c "${example[0]-false}"; prints_lines "${example[@]:1}"
+run "a reason, samples" 0 key --why 1
+[ "$(grep -A 1 '^samples/' "$work/out" | grep -c '^1 create ')" -eq "$(ls "$repository/samples" | wc -l)" ] || wrong "not every sample"
+{ printf '\0\0\377\374\1\2\3\0'; printf '\1\4%.0s' {1..32764}; } >longest
+{ cat longest; printf '\1'; } >"too long"
+{ cat longest; head -c 2000000 /dev/zero; } >"far too long"
+run "a reason, the longest file" 0 key --why 32765 longest; prints_lines "32765 reply" -
+for file in "too long" "far too long" /dev/null; do
+    run "a reason, $file" 0 key --why 1 "$file"; prints_lines "file 14"; says_nothing
+done
+printf '\0\0\0\1\2' >"version 2"
+printf '\0\0\0\5\1\3\1\0\2' >"role 2"
+run "a reason, a damaged file" 0 key --why 1 "role 2"; prints_lines "file 16"; says_nothing
+run "a reason, a damaged file, and no event either" 0 key --why 0 "version 2"; prints_lines "file 15"; says_nothing
+run "a reason, a list that cannot be read" 1 key --why 1 "wrong list"; prints /dev/null
+says_only "key: wrong list: line 3: no such event"
+run "a reason, a full device" 1 bash -c 'key --why 8 samples/k1 >/dev/full'; says "a write failed"
+run "a reason, a closed standard input" 1 bash -c 'key --why 8 - <&-'; says "^key: -: is closed$"
+run "a reason, a closed standard error" 0 bash -c 'key --why 8 samples/k1 2>&-'; prints_lines "${why[@]}"
+run "a reason, help behind it" 0 env PATH="$work/few" "$repository/key" --why 8 --help
+run "no --why behind --" 1 key -- --why; says_only "key: --why: no such file"
+misused() { # SENTENCE WORDS..
+    local sentence=$1
+    shift
+    run "wrong use, $(printf "'%s' " "$@")" 2 key "$@"; prints /dev/null; says_only "key: $sentence (./key --help)"
+}
+misused "--why: the number of an event is missing" samples/k1 --why
+for number in '' 08 00 -1 +1 ' 1' 1. 0x1 $'1\n' 4294967296 10000000000 18446744073709551617 -- --both samples/k1; do
+    misused "--why: '$number' is no number from 0 to 4,294,967,295 without leading zeros" --why "$number" samples/k1
+done
+misused "--why is there twice" --why 8 samples/k1 --why 8
+misused "--both and --why do not go together" --both --why 8 samples/k1
+misused "--both and --why do not go together" --why 0 --both samples/k1
+misused "no option --why=8" --why=8 samples/k1
+run "a key after the reasons" 0 key "a file"; prints "$work/k1.key"
+for name in reason file_to_list list_to_file; do
+    printf '#!/bin/sh\necho 0\n' >"$repository/target/bin/$name"
+    run "a reason, $name changed" 0 key --why 8 samples/k1; prints_lines "${why[@]}"; says "building it again"
+done
+echo >>"$repository/target/bin/reason"
+run "a changed reason, not asked for" 0 key "a file"; prints "$work/k1.key"; says_nothing
+
 # Instead of NAME a program that runs it, with more behind that.
 replace() { # NAME MORE
     originals
@@ -155,6 +222,13 @@ replace plain_key '; echo 17 ok 0 0 0 0'
 run "a plain_key with one line too many" 1 key --both samples/k1; prints /dev/null; says "samples/k1: the engines differ, first in line 17,"
 replace plain_key '| head -c -1'
 run "a plain_key without its last byte" 1 key --both samples/k1; prints /dev/null; says "samples/k1: the engines differ, first in line 16,"
+for name in reason file_to_list; do
+    replace $name '; echo "cannot be written" >&2'
+    run "a $name that says something" 1 key --why 8 samples/k1; prints /dev/null
+    says "^key: samples/k1: the program $name ended with: cannot be written$"
+    replace $name '; kill -SEGV $$'
+    run "a $name that crashes after printing" 1 key --why 8 samples/k1; prints /dev/null; says "the program $name ended with: .*status 139"
+done
 originals
 rm -rf "$repository/target"
 
@@ -183,18 +257,34 @@ run "after an interruption" 0 key "a file"; prints "$work/k1.key"
 
 # ./check: rt ci says the words given and ends with the status given; the outside tests end as told.
 ci() { printf '%s\n' "$2" >"$work/ci"; echo "$1" >"$work/ci.status"; } # STATUS WORDS
-names="sequences compare words documents sentences command"
+names="sequences compare reasons words documents sentences command"
 tests() { # [NAME of the one that fails]
     local one
-    for one in $names; do echo "exit 0" >"$repository/tests/$one.sh"; done
+    for one in $names; do echo 'echo "given: $*"' >"$repository/tests/$one.sh"; done
     [ $# -eq 0 ] || echo "exit 1" >"$repository/tests/$1.sh"
 }
 tests
+rm -rf "$repository/target"
 ci 0 "rt: ok
 7 passed, 0 failed"
 run "check" 0 check; ends_in '^7 passed, 0 failed$'; [ "$(grep -c passed "$work/out")" -eq 1 ] || wrong "the tally is not printed once"
 run "check, then key" 0 key "a file"; says_nothing
 run "check, then key --both" 0 key --both "a file"; says_only "key: a file: both engines agree"
+run "check, then key --why" 0 key --why 8 samples/k1; says_nothing
+run "check, its tests and what they are given" 0 check 5 6
+{
+    echo "rt: ok"
+    for name in $names; do
+        echo "tests/$name.sh"
+        case $name in
+        sentences) echo "given: " ;;
+        compare) echo "given: $repository/target/bin/key 5 6" ;;
+        *) echo "given: $repository/target/bin/key" ;;
+        esac
+    done
+    echo "7 passed, 0 failed"
+} >"$work/wanted"
+prints "$work/wanted"
 for name in $names; do
     tests "$name"
     run "check with tests/$name.sh failing" 1 check; ends_not_in '0 failed$'; ends_in "tests/$name.sh"
@@ -208,9 +298,12 @@ ci 0 "rt: no tally"
 run "check without a tally" 1 check; ends_not_in '0 failed$'
 ci 0 "0 passed, 0 failed"
 run "check with nothing passed" 1 check; ends_not_in '0 failed$'
-rm "$work/built/plain_key" "$repository/target/bin/plain_key"
 ci 0 "7 passed, 0 failed"
-run "check with a program missing" 1 check; ends_in 'left no target/bin/plain_key$'
+for name in key list_to_file plain_key reason file_to_list; do
+    originals
+    rm "$work/built/$name" "$repository/target/bin/$name"
+    run "check with $name missing" 1 check; ends_in "left no target/bin/$name\$"
+done
 run "check, wrong use" 2 check many
 run "check without rt" 1 env PATH="$work/few" "$repository/check"; ends_in 'rt'
 ln -s "$work/bin/rt" "$work/few/rt"

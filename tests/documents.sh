@@ -3,6 +3,7 @@
 #
 # What the documents show is what KEY_PROGRAM prints: README's worked example is the key of samples/bridge, the examples in docs/FORMAT.md
 # print the keys below them, samples/k1 is K1, and each table in sequences/NAME.md has the events of NAME.events and the lines of NAME.key.
+# Under its headings 'Reason after event N' stand, between backticks and in order, the lines of NAME.reason, but for those too long to show.
 set -euo pipefail
 export LC_ALL=C
 [ $# -eq 1 ] || { echo "documents.sh KEY_PROGRAM" >&2; exit 2; }
@@ -100,7 +101,7 @@ written_out() { # TABLE EVENTS KEY
         END { if (!rows) fault("no table"); exit bad }' "$1"
 }
 shopt -s nullglob
-tables=(tests/sequences/*.md)
+tables=(tests/sequences/*.md) blocks=0
 for table in "${tables[@]}"; do
     name=${table%.md}
     if ! [ -f "$name.events" ] || ! [ -f "$name.key" ]; then
@@ -113,6 +114,15 @@ for table in "${tables[@]}"; do
         same "$table, events" "$name.events" "$work/events" "$work/list"
         same "$table, key" "$name.key" "$work/key" "$name.key"
     fi
+    awk '
+        /^#/ { inside = sub(/^## Reason after event /, "after "); if (inside) print; next }
+        inside { while (match($0, /`[^`]*`/)) { print substr($0, RSTART + 1, RLENGTH - 2); $0 = substr($0, RSTART + RLENGTH) } }
+    ' "$table" >"$work/shown"
+    if [ -f "$name.reason" ] || [ -s "$work/shown" ]; then
+        awk 'length <= 100' "$name.reason" >"$work/reason" || true
+        same "$table, reasons" "$name.reason" "$work/shown" "$work/reason"
+        blocks=$((blocks + $(grep -c '^after ' "$work/shown" || true)))
+    fi
 done
 for list in tests/sequences/*.events; do
     [ -f "${list%.events}.md" ] || { echo "$list: no table"; bad=$((bad + 1)); }
@@ -121,5 +131,5 @@ if [ ${#tables[@]} -eq 0 ]; then
     echo "there is no table in tests/sequences"
     bad=$((bad + 1))
 fi
-echo "README's example, $examples of FORMAT.md and ${#tables[@]} tables, $bad differ"
+echo "README's example, $examples of FORMAT.md, ${#tables[@]} tables and $blocks reasons, $bad differ"
 [ $bad -eq 0 ]

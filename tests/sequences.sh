@@ -4,6 +4,8 @@
 # Runs list_to_file, which stands beside it, and KEY_PROGRAM on each list in sequences/ and compares with the key worked out by hand; and
 # plain_key, beside it too, with that key without its last column. K10 is no list: empty input gives 14.
 # Every list has an event, and its key a line for each.
+# Where there is a NAME.reason, the program reason, beside it too, is run for each of its blocks: a line `after N`, N an event of the list,
+# and below it the lines worked out by hand for the machine after that event.
 set -euo pipefail
 export LC_ALL=C
 [ $# -ge 1 ] || { echo "sequences.sh KEY_PROGRAM [NAME...]" >&2; exit 2; }
@@ -15,11 +17,16 @@ work=$(mktemp -d)
 trap 'rm -rf "$work"' EXIT
 encoder=$(dirname "$program")/list_to_file
 plain=$(realpath -e "$(dirname "$program")/plain_key")
+reason=$(realpath -e "$(dirname "$program")/reason")
 cd "$here/sequences"
+bad=0 blocks=0
 if [ $# -eq 0 ]; then
     shopt -s nullglob
-    lists=(*.events)
-    [ ${#lists[@]} -gt 0 ] || { echo "there is no list in $PWD"; exit 1; }
+    lists=(*.events) reasons=(*.reason)
+    [ ${#lists[@]} -gt 0 ] && [ ${#reasons[@]} -gt 0 ] || { echo "there is no list, or no reason, in $PWD"; exit 1; }
+    for name in "${reasons[@]%.reason}"; do
+        [ -f "$name.events" ] || { echo "$name.reason: there is no such list"; bad=$((bad + 1)); }
+    done
     set -- "${lists[@]%.events}"
 fi
 
@@ -36,15 +43,36 @@ agrees() { # NAME
     diff -u --label "$1, by hand" --label "$1, printed" "$1.key" "$work/key" &&
         sed 's/ [0-9]*$//' "$1.key" | diff -u --label "$1, by hand, no last column" --label "$1, printed by plain_key" - "$work/plain"
 }
-bad=0
+
+# The blocks of one list's reasons, if it has any; its event file is there.
+reasons_agree() { # NAME
+    [ -f "$1.reason" ] || return 0
+    local numbers number events ended=0
+    events=$(wc -l <"$1.key")
+    [[ $(head -n 1 "$1.reason") == "after "* ]] || { echo "$1.reason: it does not begin with a block"; return 1; }
+    mapfile -t numbers < <(sed -n 's/^after //p' "$1.reason")
+    for number in "${numbers[@]}"; do
+        blocks=$((blocks + 1))
+        [[ $number =~ ^[1-9][0-9]{0,4}$ ]] && [ "$number" -le "$events" ] ||
+            { echo "$1.reason: 'after $number', and $1 has $events events"; return 1; }
+        awk -v block="after $number" '/^after / { inside = $0 == block; next } inside' "$1.reason" >"$work/wanted"
+        [ -s "$work/wanted" ] || { echo "$1.reason: nothing is below 'after $number'"; return 1; }
+        # the number in 4 bytes, big-endian
+        # shellcheck disable=SC2059
+        { printf "$(printf '\\0\\0\\x%02x\\x%02x' $((number / 256)) $((number % 256)))"; cat "$work/file"; } >"$work/input"
+        key_to "$work/reason" "$reason" <"$work/input" || { echo "$1: no reason after event $number"; return 1; }
+        diff -u --label "$1, the reason after event $number, by hand" --label "$1, printed" "$work/wanted" "$work/reason" || ended=1
+    done
+    return $ended
+}
 for name in "$@"; do
-    agrees "$name" || bad=$((bad + 1))
+    agrees "$name" && reasons_agree "$name" || bad=$((bad + 1))
 done
-for by in "$program" "$plain"; do
+for by in "$program" "$plain" "$reason"; do
     if ! key_to "$work/key" "$by" </dev/null || [ "$(cat "$work/key")" != "file 14" ]; then
         echo "K10: empty input did not give 'file 14' from ${by##*/}"
         bad=$((bad + 1))
     fi
 done
-echo "$# sequences and K10, by ${program##*/} and plain_key, $bad differ"
+echo "$# sequences and K10, by ${program##*/} and plain_key, and $blocks reasons, by reason, $bad differ"
 [ $bad -eq 0 ]

@@ -5,13 +5,13 @@
 //! `plain` reads an event file from standard input.
 //! `plain -o FOLDER FILE...` writes the answer for each file to FOLDER, under the file's own name.
 //!
-//! Deliberately simple, and deliberately shares no code with `key.rs`.
+//! Deliberately simple, and deliberately shares no code with `key.rs`. `reason.rs` uses the machine as a module.
 
 use std::collections::BTreeMap;
 use std::fmt::Write as _;
 use std::io::{Read, Write};
 
-enum Event {
+pub enum Event {
     Create { thread: u8, server: bool },
     Give { timeslice: u8, thread: u8, priority: u8, quantum: u16 },
     Call { server: u8 },
@@ -26,7 +26,7 @@ enum Event {
 }
 
 /// "Reading a file". The rules for 16 are the same whichever of them is broken first.
-fn read(file: &[u8]) -> Result<Vec<Event>, u8> {
+pub fn read(file: &[u8]) -> Result<Vec<Event>, u8> {
     if file.len() < 4 || file.len() > 65_536 {
         return Err(14);
     }
@@ -78,7 +78,7 @@ fn read(file: &[u8]) -> Result<Vec<Event>, u8> {
 }
 
 #[derive(Clone, Copy, PartialEq)]
-enum Hold {
+pub enum Hold {
     Ready,
     Idle,
     Blocked,
@@ -93,23 +93,23 @@ enum Service {
     Orphan,
 }
 
-struct Thread {
+pub struct Thread {
     server: bool,
-    hold: Hold,
+    pub hold: Hold,
     service: Service,
 }
 
-struct Timeslice {
-    owner: u8,
-    priority: u8,
+pub struct Timeslice {
+    pub owner: u8,
+    pub priority: u8,
     quantum: u16,
-    left: u16,
+    pub left: u16,
 }
 
 #[derive(Clone, Copy)]
-struct Runs {
-    thread: u8,
-    timeslice: u8,
+pub struct Runs {
+    pub thread: u8,
+    pub timeslice: u8,
     count: usize,
 }
 
@@ -120,14 +120,18 @@ struct Chain {
     end: Option<u8>,
 }
 
-struct Plain {
-    threads: BTreeMap<u8, Thread>,
-    timeslices: BTreeMap<u8, Timeslice>,
-    turn_order: Vec<u8>,
-    runs: Option<Runs>,
+pub struct Plain {
+    pub threads: BTreeMap<u8, Thread>,
+    pub timeslices: BTreeMap<u8, Timeslice>,
+    pub turn_order: Vec<u8>,
+    pub runs: Option<Runs>,
 }
 
 impl Plain {
+    pub fn empty() -> Plain {
+        Plain { threads: BTreeMap::new(), timeslices: BTreeMap::new(), turn_order: Vec::new(), runs: None }
+    }
+
     fn walk(&self, from: u8) -> Chain {
         let mut passed = Vec::new();
         let mut here = from;
@@ -387,6 +391,16 @@ impl Plain {
             }
         }
     }
+
+    /// One event; hands back its refusal number.
+    pub fn step(&mut self, event: &Event) -> u8 {
+        let refusal = self.refusal(event);
+        if refusal == 0 {
+            self.change(event);
+            self.judge();
+        }
+        refusal
+    }
 }
 
 fn answer(file: &[u8]) -> String {
@@ -394,14 +408,10 @@ fn answer(file: &[u8]) -> String {
         Ok(events) => events,
         Err(number) => return format!("file {number}\n"),
     };
-    let mut m = Plain { threads: BTreeMap::new(), timeslices: BTreeMap::new(), turn_order: Vec::new(), runs: None };
+    let mut m = Plain::empty();
     let mut text = String::new();
     for (i, event) in events.iter().enumerate() {
-        let refusal = m.refusal(event);
-        if refusal == 0 {
-            m.change(event);
-            m.judge();
-        }
+        let refusal = m.step(event);
         let word = if refusal == 0 { "ok" } else { "no" };
         match m.runs {
             Some(r) => writeln!(text, "{} {} {} {} {} {}", i + 1, word, refusal, r.thread, r.timeslice, r.count),

@@ -1,5 +1,7 @@
 -- How a stored machine shows the state that document 01's rules speak of, and which stored machines are sound.
+use Prim.Native.Nat.{ℕ}
 use mathlib.Core.Bool.{Bool, _&&_}
+use mathlib.Core.List.{List}
 use lib.ListN.{replicate}
 use Rattle.rules.specs.declared.Running.the-variants.{Nothing}
 use Rattle.rules.specs.State.{State, limit, freeThread}
@@ -20,9 +22,13 @@ emptyMachine =
       running = Nothing;
     }
 
+-- the turn order from its front, in an array of which the first entries are live
+abbrev pub turnsOf : Machine → List ℕ
+turnsOf m = m .order
+
 -- the state that a stored machine shows
 abbrev pub shown : Machine → State
-shown m = partsOf (m .threads) (m .timeslices) (m .order) (m .«live_timeslices») (m .running)
+shown m = partsOf (m .threads) (m .timeslices) (turnsOf m) (m .«live_timeslices») (m .running)
 
 -- the stored form is the only one of its state
 unfoldable pub stored : Machine → Bool

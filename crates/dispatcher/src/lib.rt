@@ -1,6 +1,6 @@
 // The stored machine of the dispatcher. Which state of document 01 it shows is said in specs/Shown.antt.
 ghost use mathlib.Core.Path.{_≡_};
-ghost use Rattle.dispatcher.specs.Shown.{emptyMachine, soundMachine};
+ghost use Rattle.dispatcher.specs.Shown.{emptyMachine, soundMachine, turnsOf};
 
 mod choice;
 mod doors;
@@ -62,6 +62,15 @@ impl Machine {
             self.live_timeslices,
             running,
         )
+    }
+
+    // The turn order from its front, as an array: as many entries as there are live timeslices. Readers take it from here, however it
+    // is stored.
+    pub fn turn_order(self) -> [u8; 128]
+        ensures { λ r. ⌜ r ≡ turnsOf self ⌝ }
+    {
+        let order = self.order;
+        order
     }
 
     // The answer with the machine as it is now.

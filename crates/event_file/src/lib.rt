@@ -9,6 +9,7 @@ pub use reader::Opened;
 pub use reader::Stepped;
 pub use reader::open;
 pub use reader::step;
+pub use words::length_field;
 pub use writer::Written;
 pub use writer::append;
 pub use writer::start;

@@ -1,7 +1,7 @@
 // Numbers of several bytes, big-endian.
 ghost use mathlib.Core.Path.{_≡_};
 ghost use Prim.Native.Nat.{_≤_, _+_};
-ghost use lib.ListN.{length};
+ghost use lib.ListN.{getD};
 ghost use Rattle.rules.specs.EventFile.{wordOf, highByte, lowByte, lengthField};
 
 pub fn wide(byte: u8) -> usize
@@ -17,14 +17,23 @@ pub fn word(high: u8, low: u8) -> u16
     (high as u16) * 256 + (low as u16)
 }
 
-// The number of four bytes at the front of a file.
+// A byte; past the end 0.
+fn byte_at(file: &[u8], at: usize) -> u8
+    ensures { λ r. ⌜ r ≡ getD (now (file .entry)) at 0 ⌝ }
+{
+    if at < file.len() {
+        return file[at];
+    }
+    0
+}
+
+// The number of the four bytes at the front, of a file its length field. A byte that is not there counts as 0.
 pub fn length_field(file: &[u8]) -> usize
-    requires { ⌜ 4 ≤ length (now file) ⌝ }
     ensures { λ r. ⌜ r ≡ lengthField (now (file .entry)) ⌝ }
     ensures bounded { λ r. ⌜ r ≤ 4294967295 ⌝ }
 {
-    let high = word(file[0], file[1]);
-    let low = word(file[2], file[3]);
+    let high = word(byte_at(file, 0), byte_at(file, 1));
+    let low = word(byte_at(file, 2), byte_at(file, 3));
     (high as usize) * 65536 + (low as usize)
 }
 

@@ -41,41 +41,46 @@ abbrev pub answerOf : Answered → events.Answered
 answerOf r = record { state = shown (r .machine); refusal = r .refusal; links = r .links }
 
 -- before the first event of an accepted file
-pub begins : (bytes : List ℕ) (m : Machine) → m ≡ emptyMachine → Bytes bytes → fileRefusal bytes ≡ 0
+unfoldable pub begins : (bytes : List ℕ) (m : Machine) → m ≡ emptyMachine → Bytes bytes → fileRefusal bytes ≡ 0
     → Ahead bytes 5 m (run (eventsOf bytes) empty)
 begins bytes m e narrow h =
-    rw e
     record {
       events = eventsOf bytes;
       left = all-left bytes h;
       ranged = all-ranged (eventsOf bytes) (events-fit bytes narrow);
-      sound = empty-machine-sound;
-      answered = refl;
+      sound = ap soundMachine e ∙ empty-machine-sound;
+      answered = ap (λ (k : Machine). run (eventsOf bytes) (shown k)) e;
     }
 
 -- an answer that keeps its promise is the definitions' answer
 answer-of : {a : events.Answered} {m : Machine} {r : Answered} → Answers a m r → answerOf r ≡ a
 answer-of p = λ i. record { state = p .state i; refusal = p .refusal i; links = p .links i }
 
+-- what the definitions answer where the machine does
+pub turn-answer : (e : Event) {m : Machine} {r : Answered} → soundMachine m ≡ true → Answers (events.dispatch e (shown m)) m r
+    → events.offer e (shown m) ≡ answerOf r
+unfolding soundMachine
+turn-answer e {m} h given = offer-sound e (shown m) (and-true-right (stored m) (sound (shown m)) h) ∙ sym (answer-of given)
+
 -- what a turn leaves to do
-pub record Next (bytes : List ℕ) (offset to : ℕ) (answers : List events.Answered) (r : Answered) : Type 0 where
-  pub later : List events.Answered
-  pub split : answers ≡ answerOf r ∷ later
-  pub ahead : Ahead bytes to (r .machine) later
-  pub further : offset < to
+pub record Next (bytes : List ℕ) (offset to : ℕ) (es : List Event) (e : Event) (answers : List events.Answered) (r : Answered) : Type 0
+  where
+    pub later : List events.Answered
+    pub split : answers ≡ answerOf r ∷ later
+    pub ahead : Ahead bytes to (r .machine) later
+    pub read : es ≡ e ∷ ahead .events
+    pub further : offset < to
 
 module _ {bytes : List ℕ} {offset : ℕ} {m : Machine} {answers : List events.Answered} (a : Ahead bytes offset m answers) where
   -- an event is found, the machine answers it, and the file goes on where the step says
   pub goes-on : {e : Event} {to : ℕ} {r : Answered} → event e ≡ stepped bytes offset .found → to ≡ stepped bytes offset .offset
-      → Answers (events.dispatch e (shown m)) m r → Next bytes offset to answers r
-  unfolding run soundMachine
+      → Answers (events.dispatch e (shown m)) m r → Next bytes offset to (a .events) e answers r
+  unfolding run
   goes-on {e} {to} {r} found moved given =
       let n = first (a .left) found moved in
       let rest = n .later in
       let ranged : AllRanged (e ∷ rest) = rw (n .split) at (a .ranged) in
-      let shows = and-true-right (stored m) (sound (shown m)) (a .sound) in
-      let answer : events.offer e (shown m) ≡ answerOf r = offer-sound e (shown m) shows ∙ sym (answer-of given) in
-      let this = ap (λ (x : events.Answered). x ∷ run rest (x .state)) answer in
+      let this = ap (λ (x : events.Answered). x ∷ run rest (x .state)) (turn-answer e (a .sound) given) in
       record {
         later = run rest (shown (r .machine));
         split = sym (a .answered) ∙ ap (λ (l : List Event). run l (shown m)) (n .split) ∙ this;
@@ -87,6 +92,7 @@ module _ {bytes : List ℕ} {offset : ℕ} {m : Machine} {answers : List events.
               sound = dispatched-sound e m r (ranged .0) (a .sound) given;
               answered = refl;
             };
+        read = n .split;
         further = n .further;
       }
 

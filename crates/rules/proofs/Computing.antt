@@ -1,8 +1,8 @@
 -- `unfolding computing` opens every definition of specs/, for a proof by computation.
-use Rattle.rules.specs.Tests.{member, distinct, all, below}
+use Rattle.rules.specs.Tests.{member, distinct, all, filter, below}
 use Rattle.rules.specs.State.{liveThreads}
 use Rattle.rules.specs.Order.{earlier, standsAbove, topmost}
-use Rattle.rules.specs.Walk.{walkFrom, walk}
+use Rattle.rules.specs.Walk.{walkFrom, walk, donationsFrom, donations}
 use Rattle.rules.specs.Threads.{setHold, setService, created, donate, replied, aborted, linksCut, removed}
 use Rattle.rules.specs.Timeslices.{ownOf, setLeft, given, last, without, toBack, charged, refilled, struck, ranked}
 use Rattle.rules.specs.Release.{releasedPlaces, release}
@@ -16,12 +16,16 @@ use Rattle.rules.specs.EventFile.{recordsOf, fileOf, recordAt, eventsAft
 use Rattle.rules.specs.EventFile.{appendRefusal, appended}
 use Rattle.rules.specs.Steps.{eventsIn, appendedAll}
 use Rattle.rules.specs.Key.{bytes, digits, decimal, columns, line, lines, fileLine, key, shortLines, shortKey, plainLines, plainKey}
+use Rattle.rules.specs.Reason.{threadsFrom, threadsOn, aboveBelow, above, cause, spaced, causeLine, causeLines, reasonOf}
+use Rattle.rules.specs.Reason.{reasonRefusal, machineAfter, reason}
 
 unfoldable pub computing : Unit {0}
-unfolding member distinct all below liveThreads earlier standsAbove topmost walkFrom walk setHold setService created donate replied
-    aborted linksCut removed ownOf setLeft given last without toBack charged refilled struck ranked releasedPlaces release park retry
-    chooseFrom choose shaped placed settled sound releases create withGiven give callDonates callHelps call reply block wake depletes
-    spends charge afterWalk abort withRefilled refill remove rank dispatch offer judgeFrom judge plainOffer run after plainRun allFit
-    recordsOf fileOf recordAt eventsAfter fileRefusal eventsOf opened stepped started appendRefusal appended eventsIn appendedAll bytes
-    digits decimal columns line lines fileLine key shortLines shortKey plainLines plainKey
+unfolding member distinct all filter below liveThreads earlier standsAbove topmost walkFrom walk donationsFrom donations setHold
+    setService created donate replied aborted linksCut removed ownOf setLeft given last without toBack charged refilled struck
+    ranked releasedPlaces release park retry chooseFrom choose shaped placed settled sound releases create withGiven give
+    callDonates callHelps call reply block wake depletes spends charge afterWalk abort withRefilled refill remove rank dispatch
+    offer judgeFrom judge plainOffer run after plainRun allFit recordsOf fileOf recordAt eventsAfter fileRefusal eventsOf opened
+    stepped started appendRefusal appended eventsIn appendedAll bytes digits decimal columns line lines fileLine key shortLines
+    shortKey plainLines plainKey threadsFrom threadsOn aboveBelow above cause spaced causeLine causeLines reasonOf reasonRefusal
+    machineAfter reason
 computing = tt

@@ -10,7 +10,7 @@ use Rattle.rules.specs.Sound.{sound}
 use Rattle.rules.specs.Refusals.{refusal}
 use Rattle.rules.specs.Events.{Answered, dispatchAfter, dispatch, offerIf, offer}
 use Rattle.rules.specs.Plain.{PlainAnswered, emptyPlain, plainOffer}
-use Rattle.rules.specs.Lists.{Ranged, AllRanged, run, plainRun, Seen, seen, plainSeen, linksOf}
+use Rattle.rules.specs.Lists.{Ranged, AllRanged, run, after, plainRun, Seen, seen, plainSeen, linksOf}
 use Rattle.rules.specs.EventFile.{Bytes, fileRefusal, eventsOf}
 use Rattle.rules.specs.Key.{bytes, columns, shortLines, shortKeyAfter, shortKey, plainLines, plainKeyAfter, plainKey}
 use Rattle.rules.proofs.Computing.{computing}
@@ -22,6 +22,12 @@ use Rattle.rules.proofs.Files.Inverse.{events-fit}
 -- DEMAND 1, accepted. From every sound machine every accepted event gives a sound machine.
 pub accepted-sound : (e : Event) (s : State) → Ranged e → sound s ≡ true → sound (offer e s .state) ≡ true
 accepted-sound e s f h = of-sound (offer e s .state) (agrees e s (sound-of s h) f .sound)
+
+-- so every list leaves a sound machine
+pub after-sound : (es : List Event) (s : State) → AllRanged es → sound s ≡ true → sound (after es s) ≡ true
+unfolding after
+after-sound [] s f h = h
+after-sound (e ∷ es) s f h = after-sound es (offer e s .state) (f .1) (accepted-sound e s (f .0) h)
 
 -- DEMAND 1, refused. On every machine, sound or not, a refused event gives the machine as it was, and no link is followed.
 refused-after : (k : ℕ) (e : Event) (s : State) → (dispatchAfter k e s .refusal ≡ 0 → ⊥)

@@ -91,7 +91,7 @@ expected r = record { printed = text (r .prints); plain = plainText (r .prints);
 abbrev pub Meets : Row → Type 0
 Meets r = result r ≡ expected r
 
-abbrev pub All : (Row → Type 0) → List Row → Type 0
+abbrev pub All : {A : Type 0} → (A → Type 0) → List A → Type 0
 All P [] = Unit {0}
 All P (r ∷ rs) = P r × All P rs
 
@@ -131,7 +131,7 @@ meets r e =
     sym (λ i. record { printed = printed i; plain = plainKey (r .file); places = stands (r .places) (m i); soundAfter = sound (m i) }) ∙ e
 
 infixr 20 _also_
-abbrev _also_ : {A B : Type 0} → A → B → A × B
+abbrev pub _also_ : {A B : Type 0} → A → B → A × B
 a also b = (a, b)
 
 abbrev at : ℕ → Place → Stands

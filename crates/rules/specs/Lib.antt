@@ -25,3 +25,5 @@ pub mod Refusals
 pub mod EventFile
 pub mod Steps
 pub mod Key
+-- The reason on the key (document 02, [5])
+pub mod Reason

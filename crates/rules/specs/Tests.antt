@@ -1,7 +1,7 @@
 -- Tests over lists and numbers that the other files share.
 use Prim.Native.Nat.{ℕ, zero, suc}
 use mathlib.Core.List.{List, [], _∷_}
-use mathlib.Core.Bool.{Bool, true, false, not, _&&_, _||_}
+use mathlib.Core.Bool.{Bool, true, false, cond, not, _&&_, _||_}
 use lib.Dec.{eqb}
 
 -- n stands in the list
@@ -18,6 +18,11 @@ distinct (x ∷ xs) = not (member x xs) && distinct xs
 unfoldable pub all : (ℕ → Bool) → List ℕ → Bool
 all f [] = true
 all f (x ∷ xs) = f x && all f xs
+
+-- those of the list that the test takes, in their order
+unfoldable pub filter : (ℕ → Bool) → List ℕ → List ℕ
+filter f [] = []
+filter f (x ∷ xs) = cond (f x) (x ∷ filter f xs) (filter f xs)
 
 -- the test holds of every number below n
 unfoldable pub below : ℕ → (ℕ → Bool) → Bool

@@ -7,35 +7,55 @@ use Rattle.rules.specs.declared.Hold.{Hold}
 use Rattle.rules.specs.declared.Hold.the-variants.{Ready, Idle, Blocked, Calling, Helping}
 use Rattle.rules.specs.declared.Thread.{Thread}
 use Rattle.rules.specs.declared.Chain.{Chain}
+use Rattle.rules.specs.declared.LastThread.the-variants.{None, Is}
 use Rattle.rules.specs.declared.Slice.{Slice}
 use Rattle.rules.specs.State.{holdAt, ownerAt, leftAt, liveThreads}
 
 -- before the first link
 abbrev pub noLinks : Chain
-noLinks = record { looped = false; end = 0; links = 0; count = 0; helper = 0 }
+noLinks = record { looped = false; end = 0; links = 0; count = 0; helper = 0; helping = 0; last = None }
 
--- a donation link is followed
-abbrev pub donated : Chain → Chain
-donated c = record { looped = false; end = 0; links = c .links + 1; count = c .count + 1; helper = c .helper }
+-- a donation link is followed, from this thread
+abbrev pub donated : ℕ → Chain → Chain
+donated n c =
+    record {
+      looped = false;
+      end = 0;
+      links = c .links + 1;
+      count = c .count + 1;
+      helper = c .helper;
+      helping = c .helping;
+      last = Is n;
+    }
 
 -- a helping link is followed, from this thread: the donation count begins anew
 abbrev pub helped : ℕ → Chain → Chain
-helped n c = record { looped = false; end = 0; links = c .links + 1; count = 0; helper = n }
+helped n c =
+    record { looped = false; end = 0; links = c .links + 1; count = 0; helper = n; helping = c .helping + 1; last = Is n }
 
 -- "until a thread without one"
 abbrev pub ended : ℕ → Chain → Chain
-ended n c = record { looped = false; end = n; links = c .links; count = c .count; helper = c .helper }
+ended n c =
+    record {
+      looped = false;
+      end = n;
+      links = c .links;
+      count = c .count;
+      helper = c .helper;
+      helping = c .helping;
+      last = c .last;
+    }
 
 -- "the chain is a loop"
 abbrev pub loop : Chain → Chain
-loop c = record { looped = true; end = 0; links = c .links; count = 0; helper = 0 }
+loop c = record { looped = true; end = 0; links = c .links; count = 0; helper = 0; helping = c .helping; last = None }
 
 -- one step at a thread with this hold: the walk goes on over its link, or ends
 abbrev pub follow : (ℕ → Chain → Chain) → ℕ → Chain → Hold → Chain
 follow go n c Ready = ended n c
 follow go n c Idle = ended n c
 follow go n c Blocked = ended n c
-follow go n c (Calling server) = go server (donated c)
+follow go n c (Calling server) = go server (donated n c)
 follow go n c (Helping server) = go server (helped n c)
 
 -- the walk from a thread after the chain so far, with so many links to spend: "all links count"
@@ -95,3 +115,16 @@ linkOf Idle = unlinked
 linkOf Blocked = unlinked
 linkOf (Calling server) = donation server
 linkOf (Helping server) = helping server
+
+-- the donation links that a walk follows, all of them: the donation count has only those after the last helping link
+abbrev pub donationsOver : (ℕ → ℕ) → Link → ℕ
+donationsOver rest unlinked = 0
+donationsOver rest (donation server) = suc (rest server)
+donationsOver rest (helping server) = rest server
+
+unfoldable pub donationsFrom : ℕ → List Thread → ℕ → ℕ
+donationsFrom zero ts n = 0
+donationsFrom (suc left) ts n = donationsOver (donationsFrom left ts) (linkOf (holdAt ts n))
+
+unfoldable pub donations : List Thread → ℕ → ℕ
+donations ts n = donationsFrom (liveThreads ts) ts n

@@ -1,4 +1,4 @@
-// Document 01, "What belongs to the machine", and document 02, [2] to [4]: the records of threads and timeslices, and the events.
+// Document 01, "What belongs to the machine", and document 02, [2] to [5]: the records of threads and timeslices, and the events.
 // What they mean is defined in specs/.
 
 // A thread is a client or a server.
@@ -105,14 +105,30 @@ pub enum Running {
     },
 }
 
+// "the last thread before the end, or none where no link was followed or the walk loops"
+pub enum LastThread {
+    None,
+    Is(u8),
+}
+
 // What a walk finds. The count is the donation count; the helper is the thread whose helping link was
-// followed last, 0 where there is none. A loop has only its links.
+// followed last, 0 where there is none; helping is the number of helping links followed. A loop has only
+// its links and how many of them were helping.
 pub struct Chain {
     pub looped: bool,
     pub end: u8,
     pub links: u8,
     pub count: u8,
     pub helper: u8,
+    pub helping: u8,
+    pub last: LastThread,
+}
+
+// Document 02, [5]: why a timeslice that stands above the current one does not run. Waits: for the thread at its chain's end.
+pub enum Cause {
+    Waits(u8),
+    Loops,
+    Spent,
 }
 
 // The events, each with the operands of its record in an event file.

@@ -19,6 +19,7 @@ use Rattle.rules.specs.Walk.{walkFrom, walk, follow, noLinks, ended, loop}
 pub record Walked (ts : List Thread) (live from : ℕ) (c : Chain) (at : ℕ) : Type 0 where
   pub spent : c .links ≤ live
   pub counted : c .count ≤ c .links
+  pub helps : c .helping ≤ c .links
   pub rest : walkFrom (live - c .links) ts at c ≡ walkFrom live ts from noLinks
 
 step : (left : ℕ) (ts : List Thread) (n : ℕ) (c : Chain) {h : Hold} → holdAt ts n ≡ h
@@ -58,7 +59,12 @@ module _ (ts : List Thread) (live from : ℕ) (c : Chain) (at : ℕ) (w : Walked
 
 pub start : (ts : List Thread) (live from : ℕ) → Walked ts live from noLinks from
 start ts live from =
-    record { spent = omega arith; counted = omega arith; rest = ap (λ (k : ℕ). walkFrom k ts from noLinks) (omega arith) }
+    record {
+      spent = omega arith;
+      counted = omega arith;
+      helps = omega arith;
+      rest = ap (λ (k : ℕ). walkFrom k ts from noLinks) (omega arith);
+    }
 
 -- with L links to spend it is document 01's walk
 pub walks : (ts : List Thread) (live from : ℕ) (c : Chain) → live ≡ liveThreads ts → c ≡ walkFrom live ts from noLinks → c ≡ walk ts from

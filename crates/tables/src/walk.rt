@@ -4,6 +4,7 @@ ghost use Rattle.rules.specs.Walk.{noLinks, walkFrom};
 use crate::numbers::index;
 use rules::Chain;
 use rules::Hold;
+use rules::LastThread;
 use rules::Thread;
 
 // Follows links from a thread until a thread without one. After `live` links the chain is a loop.
@@ -14,6 +15,8 @@ pub fn walk(threads: [Thread; 128], live: u8, from: u8) -> Chain
     let mut links: u8 = 0;
     let mut count: u8 = 0;
     let mut helper: u8 = 0;
+    let mut helping: u8 = 0;
+    let mut last = LastThread::None;
     while links < live {
         let k = index(at);
         if 128 <= k {
@@ -23,6 +26,8 @@ pub fn walk(threads: [Thread; 128], live: u8, from: u8) -> Chain
                 links,
                 count,
                 helper,
+                helping,
+                last,
             };
         }
         let thread = threads[k];
@@ -30,6 +35,7 @@ pub fn walk(threads: [Thread; 128], live: u8, from: u8) -> Chain
         match hold {
             // A donation link.
             Hold::Calling(server) => {
+                last = LastThread::Is(at);
                 at = server;
                 links += 1;
                 count += 1;
@@ -37,9 +43,11 @@ pub fn walk(threads: [Thread; 128], live: u8, from: u8) -> Chain
             // A helping link: the donation count begins anew.
             Hold::Helping(server) => {
                 helper = at;
+                last = LastThread::Is(at);
                 at = server;
                 links += 1;
                 count = 0;
+                helping += 1;
             }
             // The chain's end.
             Hold::Ready | Hold::Idle | Hold::Blocked => {
@@ -49,6 +57,8 @@ pub fn walk(threads: [Thread; 128], live: u8, from: u8) -> Chain
                     links,
                     count,
                     helper,
+                    helping,
+                    last,
                 };
             }
         }
@@ -59,5 +69,7 @@ pub fn walk(threads: [Thread; 128], live: u8, from: u8) -> Chain
         links,
         count: 0,
         helper: 0,
+        helping,
+        last: LastThread::None,
     }
 }

@@ -3,11 +3,13 @@ use Prim.Native.Nat.{ℕ, _≤_, _<_}
 use native.Mathlib.Omega.{arith}
 use mathlib.Core.Path.{_≡_, sym, ap, _∙_}
 use mathlib.Core.List.{List}
+use mathlib.Core.Bool.{false}
 use lib.Dec.{ltb}
-use lib.ListN.{length, take}
+use lib.ListN.{length, take, length-drop}
 use lib.Seq.{take-all, length-take-le}
-use borrow.Author.Tests.{ltb-true, ltb-false}
+use borrow.Author.Tests.{ltb-true, ltb-false, le-ltb}
 use Rattle.rules.specs.Key.{fileLine, key, plainKey}
+use Rattle.rules.specs.Reason.{fileIn, reason, reasonRefusal}
 use Rattle.rules.proofs.Basics.Views.{Two, yes-true, no-false, two}
 use Rattle.rules.proofs.Files.Refusing.{refuses-long}
 
@@ -43,3 +45,14 @@ enough-for-key = enough-for-one key 65536 (fileLine 14) long-key
 
 pub enough-for-plain-key : (n : ℕ) → 65536 < n → (b : List ℕ) → plainKey (take n b) ≡ plainKey b
 enough-for-plain-key = enough-for-one plainKey 65536 (fileLine 14) long-plain-key
+
+-- the program `reason` has the event number, 4 bytes, before its file: 65,540 bytes are the most that it can accept
+long-reason : (input : List ℕ) → 65540 < length input → reason input ≡ fileLine 14
+unfolding reason reasonRefusal
+long-reason input h =
+    let whole : ltb (length input) 4 ≡ false = le-ltb (length input) 4 (omega arith) in
+    rw (whole, refuses-long (fileIn input) (omega (arith, length-drop 4 input)))
+
+-- and what follows the first 65,541 bytes changes nothing
+pub enough-for-reason : (n : ℕ) → 65540 < n → (b : List ℕ) → reason (take n b) ≡ reason b
+enough-for-reason = enough-for-one reason 65540 (fileLine 14) long-reason

@@ -1,8 +1,9 @@
--- The laws of text put into a lent buffer, and why the buffers of the programs that print keys suffice.
+-- The laws of text put into a lent buffer, and why the buffers of the programs that print keys and reasons suffice.
 pub mod Puts
 pub mod Decimals
 pub mod DigitCounts
 pub mod ColumnParts
 pub mod Lengths
 pub mod Room
+pub mod ReasonRoom
 pub mod Enough

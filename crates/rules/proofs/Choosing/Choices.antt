@@ -211,7 +211,7 @@ choosing-by k s links x h rest t e (waiting n w q v) =
     rw v
     (parks-now s x links t e p refl good (chooseFrom k o)
     (rest o (park-mid s x t e p refl good) (omega (arith, park-fewer s x t e p refl good))))
-choosing-by k s links x h rest t e (stalling never w v) =
+choosing-by k s links x h rest t e (stalling _ never w v) =
     let o : Outcome = record { state = park t Stalled s; links = links + walk (s .threads) (owner s t) .links } in
     rw v
     (parks-now s x links t e Stalled refl never (chooseFrom k o)

@@ -38,7 +38,7 @@ module _ (I : State → Type 0) (running-kept : (r : Running) (s : State) → I 
       let p = On (walk (s .threads) (owner s t) .end) in
       let good : Good s t p = subst (λ (m : ℕ). Waits (s .threads) (owner s t) m) (sym q) w in
       rw v (rest _ (park-mid s x t e p refl good) (park-kept s x t e p refl good i))
-  look-kept k s links x i rest t e (stalling never w v) =
+  look-kept k s links x i rest t e (stalling h never w v) =
       rw v (rest _ (park-mid s x t e Stalled refl never) (park-kept s x t e Stalled refl never i))
 
   looks-kept : (k : ℕ) (o : Outcome) → Mid (o .state) → I (o .state) → I (chooseFrom k o .state)

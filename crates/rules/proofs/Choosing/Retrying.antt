@@ -111,7 +111,7 @@ module _ (s : State) (x : Mid s) (t : ℕ) (e : topmostAt inQueue s ≡ some t) 
   arrived = by (split h (pair .update .links .elsewhere) (helper .path))
     where
       onward : {c : Chain} → To (linkAt ts′) (owner s t) noLinks h c → Arrived
-      onward {c} p = record { chain = donated c; path = one-call p (ap linkOf (pair .at-caller)) }
+      onward {c} p = record { chain = donated h c; path = one-call p (ap linkOf (pair .at-caller)) }
 
       by : Split (linkAt ts) (linkAt ts′) h (owner s t) noLinks h (helper .before) → Arrived
       by (unchanged p) = onward p

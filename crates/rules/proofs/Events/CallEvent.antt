@@ -87,7 +87,7 @@ module _ (s : State) (x : Sound s) (caller t count : ℕ) (a : Active s caller t
     settled =
         runs-on t server (count + 1) refl (a .topmost)
         (record {
-          chain = donated (a .runs .chain);
+          chain = donated caller (a .runs .chain);
           ends =
               record {
                 path = one-call (kept-up-to (pair .update .links) (ap linkOf (a .runs .ready)) (a .runs .ends .path))

@@ -126,7 +126,7 @@ module _
             let few : d .links ≤ liveThreads (s .threads) =
             subst (λ (k : Chain). k .links ≤ liveThreads (s .threads)) e (walk-links (s .threads) n) in
             rw (is ∙ e) (released m p (d .links) few b at-end)
-        by (loops e never) =
+        by (loops h e never) =
             rw (is ∙ e)
             (hand (release stalled (withThreads ts′ s)) (liveThreads (s .threads))
             (release-mid stalled (withThreads ts′ s) (change-releasable (at-loop x u never)))

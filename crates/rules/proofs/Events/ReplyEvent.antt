@@ -57,7 +57,7 @@ module _ (s : State) (x : Sound s) (server t count : ℕ) (a : Active s server t
     calls = x .mid .shape .sane .calling caller server serves
 
     -- the caller's chain ended at the server
-    there : Ends (linkAt (s .threads)) caller noLinks server (donated noLinks)
+    there : Ends (linkAt (s .threads)) caller noLinks server (donated caller noLinks)
     there = record { path = one-call stop (ap linkOf calls); last = ap linkOf (a .runs .ready) }
 
     change : Change nowhere s ts′ caller

@@ -10,6 +10,7 @@ use Rattle.rules.specs.declared.Hold.{Hold}
 use Rattle.rules.specs.declared.Hold.the-variants.{Ready, Idle, Blocked, Calling, Helping}
 use Rattle.rules.specs.declared.Thread.{Thread}
 use Rattle.rules.specs.declared.Chain.{Chain}
+use Rattle.rules.specs.declared.LastThread.the-variants.{None}
 use Rattle.rules.specs.State.{holdAt, liveAt, liveThreads}
 use Rattle.rules.specs.Walk.{Link, unlinked, donation, helping, linkOf}
 use Rattle.rules.specs.Walk.{noLinks, donated, helped, ended, follow, walkFrom, walk}
@@ -22,7 +23,7 @@ linkAt ts n = linkOf (holdAt ts n)
 -- from thread n, after the chain c, the links lead to thread m, after the chain d
 pub data To (ln : ℕ → Link) : ℕ → Chain → ℕ → Chain → Type 0 where
   stop : {n : ℕ} {c : Chain} → To ln n c n c
-  call : {n s m : ℕ} {c d : Chain} → ln n ≡ donation s → To ln s (donated c) m d → To ln n c m d
+  call : {n s m : ℕ} {c d : Chain} → ln n ≡ donation s → To ln s (donated n c) m d → To ln n c m d
   help : {n s m : ℕ} {c d : Chain} → ln n ≡ helping s → To ln s (helped n c) m d → To ln n c m d
 
 -- the links from n end at m
@@ -37,7 +38,7 @@ joins (call l p) q = call l (joins p q)
 joins (help l p) q = help l (joins p q)
 
 -- one link more
-pub one-call : {ln : ℕ → Link} {n m s : ℕ} {c d : Chain} → To ln n c m d → ln m ≡ donation s → To ln n c s (donated d)
+pub one-call : {ln : ℕ → Link} {n m s : ℕ} {c d : Chain} → To ln n c m d → ln m ≡ donation s → To ln n c s (donated m d)
 one-call p l = joins p (call l stop)
 
 pub one-help : {ln : ℕ → Link} {n m s : ℕ} {c d : Chain} → To ln n c m d → ln m ≡ helping s → To ln n c s (helped m d)
@@ -50,7 +51,7 @@ pub record Again (ln : ℕ → Link) (n : ℕ) (c : Chain) (m : ℕ) : Type 0 wh
 
 pub again : {ln : ℕ → Link} {n m : ℕ} {c d : Chain} → To ln n c m d → (c′ : Chain) → Again ln n c′ m
 again stop c′ = record { chain = c′; path = stop }
-again (call l p) c′ = let rest = again p (donated c′) in record { chain = rest .chain; path = call l (rest .path) }
+again (call {n = n} l p) c′ = let rest = again p (donated n c′) in record { chain = rest .chain; path = call l (rest .path) }
 again (help {n = n} l p) c′ = let rest = again p (helped n c′) in record { chain = rest .chain; path = help l (rest .path) }
 
 -- links are counted
@@ -71,7 +72,7 @@ stays p e = stays-after p e
 -- how a chain ends: with no link, a donation or a helping link
 pub data Last (ln : ℕ → Link) : ℕ → Chain → ℕ → Chain → Type 0 where
   none : {n : ℕ} {c : Chain} → Last ln n c n c
-  donates : {n k m : ℕ} {c d : Chain} → To ln n c k d → ln k ≡ donation m → Last ln n c m (donated d)
+  donates : {n k m : ℕ} {c d : Chain} → To ln n c k d → ln k ≡ donation m → Last ln n c m (donated k d)
   helps : {n k m : ℕ} {c d : Chain} → To ln n c k d → ln k ≡ helping m → Last ln n c m (helped k d)
 
 -- the chain that ends so
@@ -194,12 +195,12 @@ passes :
 unfolding endsWithin afterLink
 passes ts ll live (stop {n = n} {c = c}) e = passes-end ts n c live e
 passes ts ll live (call {n = n} {s = s} {c = c} {d = d} l p) e =
-    passes-link ts n s (donated c) c d live refl (λ k. rw l) (passes ts ll (ll .calls n s l) p e)
+    passes-link ts n s (donated n c) c d live refl (λ k. rw l) (passes ts ll (ll .calls n s l) p e)
 passes ts ll live (help {n = n} {s = s} {c = c} {d = d} l p) e =
     passes-link ts n s (helped n c) c d live refl (λ k. rw l) (passes ts ll (ll .helps n s l) p e)
 
 -- the live threads counted at the first thread are at most L
-few-links :
+pub few-links :
     (ts : List Thread) → LinksLive ts → (n : ℕ) → liveAt ts n ≡ true → {m : ℕ} {d : Chain} → Ends (linkAt ts) n noLinks m d
     → d .links < liveThreads ts
 few-links ts ll n h p =
@@ -207,9 +208,9 @@ few-links ts ll n h p =
     omega (arith, liveThat-at-most (endsWithin (linkAt ts) (suc (all .distance))) ts)
 
 -- THE WALK, link by link: what it does at a hold it does by the link.
-byLink : (ℕ → Chain → Chain) → ℕ → Chain → Link → Chain
+unfoldable pub byLink : (ℕ → Chain → Chain) → ℕ → Chain → Link → Chain
 byLink go n c unlinked = ended n c
-byLink go n c (donation s) = go s (donated c)
+byLink go n c (donation s) = go s (donated n c)
 byLink go n c (helping s) = go s (helped n c)
 
 follow-byLink : (go : ℕ → Chain → Chain) (n : ℕ) (c : Chain) (h : Hold) → follow go n c h ≡ byLink go n c (linkOf h)
@@ -221,7 +222,7 @@ follow-byLink go n c (Calling s) = refl
 follow-byLink go n c (Helping s) = refl
 
 -- so one step goes over the link to the rest of the walk, with one link less to spend
-step :
+pub step :
     (k : ℕ) (ts : List Thread) (n : ℕ) (c : Chain) (l : Link) → linkAt ts n ≡ l
     → walkFrom (suc k) ts n c ≡ byLink (walkFrom k ts) n c l
 unfolding walkFrom
@@ -237,21 +238,21 @@ finds ts (suc k) (stop {n = n} {c = c}) e h = step k ts n c unlinked e
 finds ts (suc k) (call {n = n} {s = s} {c = c} l p) e h = step k ts n c (donation s) l ∙ finds ts k p e (omega arith)
 finds ts (suc k) (help {n = n} {s = s} {c = c} l p) e h = step k ts n c (helping s) l ∙ finds ts k p e (omega arith)
 
--- what a loop says: its links alone
-abbrev pub looping : List Thread → Chain
-looping ts = record { looped = true; end = 0; links = liveThreads ts; count = 0; helper = 0 }
+-- what a loop says: its links, so many of them helping
+abbrev pub looping : List Thread → ℕ → Chain
+looping ts h = record { looped = true; end = 0; links = liveThreads ts; count = 0; helper = 0; helping = h; last = None }
 
 -- what is left of a walk, with k of its L links to spend: the links end before that, or it says that they do not
 data Outcome (ts : List Thread) (k n : ℕ) (c : Chain) : Type 0 where
   comes : {m : ℕ} {d : Chain} → Ends (linkAt ts) n c m d → d .links < liveThreads ts → Outcome ts k n c
-  cut : walkFrom k ts n c ≡ looping ts → Outcome ts k n c
+  cut : (h : ℕ) → walkFrom k ts n c ≡ looping ts h → Outcome ts k n c
 
 -- over one link
 outcome-link :
     {ts : List Thread} {k n s : ℕ} {b c : Chain} → walkFrom (suc k) ts n c ≡ walkFrom k ts s b
     → ((m : ℕ) (d : Chain) → To (linkAt ts) s b m d → To (linkAt ts) n c m d) → Outcome ts k s b → Outcome ts (suc k) n c
 outcome-link w link (comes p few) = comes (record { path = link _ _ (p .path); last = p .last }) few
-outcome-link w link (cut e) = cut (w ∙ e)
+outcome-link w link (cut h e) = cut h (w ∙ e)
 
 -- at a thread with this link
 outcome-at :
@@ -260,14 +261,14 @@ outcome-at :
 unfolding byLink
 outcome-at ts k n c unlinked e h rest = comes (record { path = stop; last = e }) (omega arith)
 outcome-at ts k n c (donation s) e h rest =
-    outcome-link (step k ts n c (donation s) e) (λ m d. call e) (rest s (donated c) (omega arith))
+    outcome-link (step k ts n c (donation s) e) (λ m d. call e) (rest s (donated n c) (omega arith))
 outcome-at ts k n c (helping s) e h rest =
     outcome-link (step k ts n c (helping s) e) (λ m d. help e) (rest s (helped n c) (omega arith))
 
 -- the links followed and those to spend are L together
 outcome : (ts : List Thread) (k n : ℕ) (c : Chain) → liveThreads ts ≡ c .links + k → Outcome ts k n c
 unfolding walkFrom
-outcome ts zero n c h = let e : c .links ≡ liveThreads ts = omega arith in cut (rw e)
+outcome ts zero n c h = let e : c .links ≡ liveThreads ts = omega arith in cut (c .helping) (rw e)
 outcome ts (suc k) n c h = outcome-at ts k n c (linkAt ts n) refl h (outcome ts k)
 
 -- the whole walk
@@ -277,7 +278,7 @@ walked ts n = outcome ts (liveThreads ts) n noLinks (omega arith)
 -- THE BRIDGE. A walk from a live thread finds where the links end, or says that they end nowhere.
 pub data Found (ts : List Thread) (n : ℕ) : Type 0 where
   ends : (m : ℕ) (d : Chain) → Ends (linkAt ts) n noLinks m d → walk ts n ≡ ended m d → Found ts n
-  loops : walk ts n ≡ looping ts → ((m : ℕ) (d : Chain) → Ends (linkAt ts) n noLinks m d → ⊥) → Found ts n
+  loops : (h : ℕ) → walk ts n ≡ looping ts h → ((m : ℕ) (d : Chain) → Ends (linkAt ts) n noLinks m d → ⊥) → Found ts n
 
 -- the chain that ends is the one that the walk finds
 pub walk-ends :
@@ -292,13 +293,14 @@ unfolding walk
 found ts ll n h =
     elim (walked ts n) [
       | comes p few ↦ ends _ _ p (walk-ends ts ll n h p)
-      | cut e ↦ loops e (λ m d p. true≢false (ap (λ (c : Chain). c .looped) (sym e ∙ walk-ends ts ll n h p)))
+      | cut k e ↦ loops k e (λ m d p. true≢false (ap (λ (c : Chain). c .looped) (sym e ∙ walk-ends ts ll n h p)))
     ]
 
 -- links that end nowhere
-pub walk-loops : (ts : List Thread) → (n : ℕ) → ((m : ℕ) (d : Chain) → Ends (linkAt ts) n noLinks m d → ⊥) → walk ts n ≡ looping ts
+pub walk-loops : (ts : List Thread) → (n : ℕ) → ((m : ℕ) (d : Chain) → Ends (linkAt ts) n noLinks m d → ⊥)
+    → walk ts n ≡ looping ts (walk ts n .helping)
 unfolding walk
-walk-loops ts n never = elim (walked ts n) [ comes p few ↦ absurd (never _ _ p) | cut e ↦ e ]
+walk-loops ts n never = elim (walked ts n) [ comes p few ↦ absurd (never _ _ p) | cut h e ↦ rw e ]
 
 -- a walk follows at most L links, whatever the threads hold
 pub walk-links : (ts : List Thread) (n : ℕ) → walk ts n .links ≤ liveThreads ts
@@ -306,5 +308,5 @@ unfolding walk
 walk-links ts n =
     elim (walked ts n) [
       | comes p few ↦ rw (finds ts (liveThreads ts) (p .path) (p .last) (omega arith)) (omega arith)
-      | cut e ↦ rw e (omega arith)
+      | cut h e ↦ rw e (omega arith)
     ]

@@ -104,7 +104,7 @@ module _ {ln ln′ : ℕ → Link} {r : ℕ} (x : Cuts ln ln′ r) where
   uncut never stop u = stop
   uncut {m = m} never (call {n = n} {s = s} {c = c} {d = d} e p) u = by (uncut never p u) (x n)
     where
-      by : To ln′ s (donated c) m d → Cut ln ln′ r n → To ln′ n c m d
+      by : To ln′ s (donated n c) m d → Cut ln ln′ r n → To ln′ n c m d
       by rest (keeps k) = call (k ∙ e) rest
       by rest (cut k q) = absurd (leads refl q (call {c = c} e p) u never)
   uncut {m = m} never (help {n = n} {s = s} {c = c} {d = d} e p) u = by (uncut never p u) (x n)
@@ -118,7 +118,7 @@ module _ {ln ln′ : ℕ → Link} {r : ℕ} (x : Cuts ln ln′ r) where
   before stop = stop
   before {m = m} (call {n = n} {s = s} {c = c} {d = d} e p) = by (before p) (x n)
     where
-      by : To ln s (donated c) m d → Cut ln ln′ r n → To ln n c m d
+      by : To ln s (donated n c) m d → Cut ln ln′ r n → To ln n c m d
       by rest (keeps k) = call (sym k ∙ e) rest
       by rest (cut k q) = no-both k e
   before {m = m} (help {n = n} {s = s} {c = c} {d = d} e p) = by (before p) (x n)

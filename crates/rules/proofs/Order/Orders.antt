@@ -85,12 +85,16 @@ module _ (ss : List Slice) (order : List ℕ) where
   unfolding standsAbove
   above-numbers a b e = above-by a b (or-true-cases (outranks ss a b) (equals ss a b && earlier order a b) e)
 
+  -- of two of the same priority the earlier stands above
+  pub earlier-above : (a b : ℕ) → priorityAt ss a ≡ priorityAt ss b → earlier order a b ≡ true → standsAbove ss order a b ≡ true
+  unfolding standsAbove
+  earlier-above a b p e =
+      or-true-right (outranks ss a b) (equals ss a b && earlier order a b) (rw (eq-eqb (priorityAt ss a) (priorityAt ss b) p) e)
+
   pub numbers-above : {a b : ℕ} → Above ss order a b → standsAbove ss order a b ≡ true
   unfolding standsAbove
   numbers-above {a} {b} (higher h) = rw (lt-ltb (priorityAt ss b) (priorityAt ss a) h)
-  numbers-above {a} {b} (sooner p h) =
-      or-true-right (outranks ss a b) (equals ss a b && earlier order a b)
-      (rw (eq-eqb (priorityAt ss a) (priorityAt ss b) p) (earlier-place order a b ∙ lt-ltb (place order a) (place order b) h))
+  numbers-above {a} {b} (sooner p h) = earlier-above a b p (earlier-place order a b ∙ lt-ltb (place order a) (place order b) h)
 
   -- a strict order
   not-above-itself : {a : ℕ} → Above ss order a a → ⊥

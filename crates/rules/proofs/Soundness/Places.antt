@@ -96,14 +96,14 @@ waits-of s t n (running m k r w v) e = clash false (rw v at e) refl
 waits-of s t n (retrying m r w v) e = clash false (rw v at e) refl
 waits-of s t n (waiting m x q v) e =
     subst (λ (k : ℕ). Waits (s .threads) (owner s t) k) (sym q ∙ eqb-true (chainOf (s .threads) (s .slices) t .end) n (rw v at e)) x
-waits-of s t n (stalling never w v) e = clash false (rw v at e) refl
+waits-of s t n (stalling h never w v) e = clash false (rw v at e) refl
 
 stalls-of : (s : State) (t : ℕ) → Standing (s .threads) (owner s t)
     → isStalls (verdict (s .threads) (chainOf (s .threads) (s .slices) t)) ≡ true → Stalls (s .threads) (owner s t)
 stalls-of s t (running m k r w v) e = clash false (rw v at e) refl
 stalls-of s t (retrying m r w v) e = clash false (rw v at e) refl
 stalls-of s t (waiting m x q v) e = clash false (rw v at e) refl
-stalls-of s t (stalling never w v) e = never
+stalls-of s t (stalling h never w v) e = never
 
 good-of : (s : State) (t : ℕ) → Standing (s .threads) (owner s t) → (p : Place)
     → placeGood s t (chainOf (s .threads) (s .slices) t) p ≡ true → Good s t p
@@ -191,7 +191,7 @@ runs-of s t n count (running m k r w v) e =
     (record { chain = r .chain; ends = r .ends; ready = r .ready; counted = counts })
 runs-of s t n count (retrying m r w v) e = clash false (rw v at e) refl
 runs-of s t n count (waiting m x q v) e = clash false (rw v at e) refl
-runs-of s t n count (stalling never w v) e = clash false (rw v at e) refl
+runs-of s t n count (stalling h never w v) e = clash false (rw v at e) refl
 
 settled-by : (s : State) → Shape (forget s) → (o : Option ℕ) (r : Running) → topmostAt inQueue s ≡ o → s .running ≡ r
     → settledOn s o r ≡ true → Settled s

@@ -88,7 +88,7 @@ pub data Standing (ts : List Thread) (x : ℕ) : Type 0 where
   running : (n count : ℕ) (r : RunsAt ts x n count) → walk ts x ≡ ended n (r .chain) → verdict ts (walk ts x) ≡ runs → Standing ts x
   retrying : (n : ℕ) (r : RetriesAt ts x n) → walk ts x ≡ ended n (r .chain) → verdict ts (walk ts x) ≡ retries → Standing ts x
   waiting : (n : ℕ) → Waits ts x n → walk ts x .end ≡ n → verdict ts (walk ts x) ≡ waits → Standing ts x
-  stalling : Stalls ts x → walk ts x ≡ looping ts → verdict ts (walk ts x) ≡ stalls → Standing ts x
+  stalling : (h : ℕ) → Stalls ts x → walk ts x ≡ looping ts h → verdict ts (walk ts x) ≡ stalls → Standing ts x
 
 -- what a thread without a link holds
 data Unlinked (h : Hold) : Type 0 where
@@ -118,8 +118,8 @@ at-idle-owner : (ts : List Thread) (x m : ℕ) (d : Chain) → walk ts x ≡ end
     → verdict ts (walk ts x) ≡ waits
 at-idle-owner ts x m d e h l = ap (verdict ts) e ∙ ap (λ k. atEnd k (d .links)) h ∙ rw l
 
-at-loop : (ts : List Thread) (x : ℕ) → walk ts x ≡ looping ts → verdict ts (walk ts x) ≡ stalls
-at-loop ts x e = ap (verdict ts) e
+at-loop : (ts : List Thread) (x h : ℕ) → walk ts x ≡ looping ts h → verdict ts (walk ts x) ≡ stalls
+at-loop ts x h e = ap (verdict ts) e
 
 -- every live thread's chain has one of the four verdicts, with what it means
 pub standing : (ts : List Thread) → Sane ts → (x : ℕ) → liveAt ts x ≡ true → Standing ts x
@@ -141,7 +141,12 @@ standing ts s x h = by (found ts (links-live s) x h)
 
     by : Found ts x → Standing ts x
     by (ends m d p e) = at-end m d p e (unlinked-is (holdAt ts m) (p .last))
-    by (loops e never) = stalling never e (at-loop ts x e)
+    by (loops h e never) = stalling h never e (at-loop ts x h e)
+
+-- an owner without a link is its chain's end
+pub owner-ends : (ts : List Thread) {x n : ℕ} → x ≡ n → linkAt ts n ≡ unlinked → Ends (linkAt ts) x noLinks n noLinks
+owner-ends ts {x} q u =
+    subst (λ (k : ℕ). Ends (linkAt ts) x noLinks k noLinks) q (record { path = stop; last = ap (linkAt ts) q ∙ u })
 
 -- from what the links say to the walk and its verdict
 pub waits-walk : {ts : List Thread} → Sane ts → {x n : ℕ} → liveAt ts x ≡ true → Waits ts x n
@@ -150,14 +155,11 @@ waits-walk {ts} s {x} {n} h (blocked {d = d} p b) =
     let e = walk-ends ts (links-live s) x h p in
     (at-blocked ts x n d e b, ap (λ (c : Chain). c .end) e)
 waits-walk {ts} s {x} {n} h (idle q i) =
-    let e : walk ts x ≡ ended n noLinks = walk-ends ts (links-live s) x h (owner-ends q (ap linkOf i)) in
+    let e : walk ts x ≡ ended n noLinks = walk-ends ts (links-live s) x h (owner-ends ts q (ap linkOf i)) in
     (at-idle-owner ts x n noLinks e i refl, ap (λ (c : Chain). c .end) e)
-  where
-    owner-ends : x ≡ n → linkAt ts n ≡ unlinked → Ends (linkAt ts) x noLinks n noLinks
-    owner-ends q u = subst (λ (k : ℕ). Ends (linkAt ts) x noLinks k noLinks) q (record { path = stop; last = ap (linkAt ts) q ∙ u })
 
 pub stalls-walk : (ts : List Thread) (x : ℕ) → Stalls ts x → verdict ts (walk ts x) ≡ stalls
-stalls-walk ts x never = at-loop ts x (walk-loops ts x never)
+stalls-walk ts x never = at-loop ts x (walk ts x .helping) (walk-loops ts x never)
 
 pub runs-walk : {ts : List Thread} → Sane ts → {x n count : ℕ} → liveAt ts x ≡ true → (r : RunsAt ts x n count)
     → (walk ts x ≡ ended n (r .chain)) × (verdict ts (walk ts x) ≡ runs)

@@ -13,11 +13,12 @@ use Rattle.tables.proofs.walk.walk.Statement.{statement}
 use Rattle.tables.proofs.walk.walk.Tie as tie
 
 abbrev Inv-loop : tie.InvT-loop
-Inv-loop live from threads at₀ links₀ count₀ helper₀ at links count helper =
-    Walked threads live from (record { looped = false; end = 0; links = links; count = count; helper = helper }) at
+Inv-loop live from threads at₀ links₀ count₀ helper₀ helping₀ last₀ at links count helper helping last =
+    Walked threads live from
+    (record { looped = false; end = 0; links = links; count = count; helper = helper; helping = helping; last = last }) at
 
 abbrev μ-loop : tie.MeasureT-loop
-μ-loop live from threads at₀ links₀ count₀ helper₀ at links count helper = live - links
+μ-loop live from threads at₀ links₀ count₀ helper₀ helping₀ last₀ at links count helper helping last = live - links
 
 loop-holds : tie.Need-loop-holds Inv-loop μ-loop
 loop-holds c = start _ _ _
@@ -54,13 +55,16 @@ loop-again c =
     let turn = tested .before in
     let w = turn .loop .inv in
     let rest = next _ _ _ _ _ w (tested .loop-test .taken) _ (at-index .index .ensures) _ (c .before .hold .given .1) in
-    record { spent = omega arith; counted = omega arith; rest = rest }
+    record { spent = omega arith; counted = omega arith; helps = omega arith; rest = rest }
 
 enum-known-hold-2 : tie.Need-enum-known-hold-2 Inv-loop μ-loop
 enum-known-hold-2 c = search needs
 
 add-links-2 : tie.Need-add-links-2 Inv-loop μ-loop
 add-links-2 c = omega arith
+
+add-helping : tie.Need-add-helping Inv-loop μ-loop
+add-helping c = omega arith
 
 loop-less-2 : tie.Need-loop-less-2 Inv-loop μ-loop
 loop-less-2 c = omega arith
@@ -72,7 +76,7 @@ loop-again-2 c =
     let turn = tested .before in
     let w = turn .loop .inv in
     let rest = next _ _ _ _ _ w (tested .loop-test .taken) _ (at-index .index .ensures) _ (c .before .hold2 .given .1) in
-    record { spent = omega arith; counted = omega arith; rest = rest }
+    record { spent = omega arith; counted = omega arith; helps = omega arith; rest = rest }
 
 returns-2 : tie.Need-returns-2 Inv-loop μ-loop
 returns-2 c =
@@ -87,4 +91,4 @@ pub walk-spec : {M : Type 1} → statement M
 walk-spec =
     tie.close
     (tie.spec Inv-loop μ-loop loop-holds (λ _ _. tt) returns mul-thread array-copy-out-thread enum-known-hold add-links add-count loop-less
-    loop-again enum-known-hold-2 add-links-2 loop-less-2 loop-again-2 returns-2 returns-3)
+    loop-again enum-known-hold-2 add-links-2 add-helping loop-less-2 loop-again-2 returns-2 returns-3)

@@ -10,9 +10,6 @@ returns c = simp (lt-ltb _ _ (c .if1 .taken))
 returns-2 : tie.Need-returns-2
 returns-2 c = simp (le-ltb _ _ (c .before .if1 .left), lt-ltb _ _ (c .if2 .taken))
 
-length-field-requires : tie.Need-length-field-requires
-length-field-requires c κs = search needs
-
 returns-3 : tie.Need-returns-3
 returns-3 c =
     simp (
@@ -63,4 +60,4 @@ returns-6 c =
 pub head-refusal-spec : {M : Type 1} → statement M
 head-refusal-spec =
     tie.close
-    (tie.spec returns returns-2 length-field-requires returns-3 add-if4 returns-4 shared-slice-read-if5 returns-5 returns-6)
+    (tie.spec returns returns-2 (λ _ _. tt) returns-3 add-if4 returns-4 shared-slice-read-if5 returns-5 returns-6)
