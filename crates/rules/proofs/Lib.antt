@@ -1,11 +1,9 @@
 -- What is proved about the definitions of specs/. Demands.antt has the theorems about the machines, Files/Inverse.antt those about event
--- files; MarkedSequences.antt has K1 to K11, Depletion.antt what a Spent timeslice is, Removal.antt that freed numbers are free,
--- Ranking.antt what a rank leaves. LastColumn.antt has the plain machine's key as bytes, WithoutPlaces.antt that it never refuses with 1,
--- and JudgingAnew.antt that what ran before an event does not matter to its judging. WiderWalk.antt has the laws of the walk's answer,
--- Reasons.antt that the reason on the key is true, and MarkedReasons.antt what it prints for short lists.
+-- files; Depletion.antt has what a Spent timeslice is, Removal.antt that freed numbers are free, Ranking.antt what a rank leaves.
+-- LastColumn.antt has the plain machine's key as bytes, WithoutPlaces.antt that it never refuses with 1, and JudgingAnew.antt that what ran
+-- before an event does not matter to its judging. WiderWalk.antt has the laws of the walk's answer, and Reasons.antt that the reason on the
+-- key is true. K1 to K11 and rows of our own are computed in crate marked.
 pub mod Computing
-pub mod MarkedSequences
-pub mod MarkedReasons
 pub mod Basics
 pub mod Files
 pub mod Links

@@ -3,14 +3,14 @@ use Prim.Native.Nat.{ℕ}
 use Prim.Native.String.{String}
 use mathlib.Core.Path.{_≡_, refl}
 use mathlib.Core.List.{List, [], _∷_, _++_}
 use Rattle.rules.specs.declared.Role.the-variants.{Client, Server}
 use Rattle.rules.specs.declared.Event.{Event}
 use Rattle.rules.specs.declared.Event.the-variants.{Create, Give, Call, Block, Charge}
 use Rattle.rules.specs.EventFile.{fourBytes, fileOf}
 use Rattle.rules.specs.Key.{bytes}
 use Rattle.rules.specs.Reason.{reason}
 use Rattle.rules.proofs.Computing.{computing}
-use Rattle.rules.proofs.MarkedSequences.{All, _also_}
+use Rattle.marked.proofs.MarkedSequences.{All, _also_}
 
 -- an input and the lines that it gets
 pub record Row : Type 0 where
