@@ -1,10 +1,11 @@
 // "the chain of the current timeslice, thread by thread from the owner"; "The chain is one line of numbers with single spaces, or `-`".
+ghost use mathlib.Core.Path.{_≡_};
 ghost use mathlib.Core.List.{_++_};
 ghost use Rattle.rules.specs.Key.{bytes, decimal};
 ghost use Rattle.rules.specs.Reason.{threadsFrom, spaced, numbersLine, chainLine};
 ghost use Rattle.text.specs.Put.{Put};
 ghost use Rattle.dispatcher.specs.Shown.{shown};
-ghost use Rattle.reason_sheet.specs.Later.{later};
+ghost use Rattle.reason_sheet.specs.Later.{linkedThread, later};
 use dispatcher::Machine;
 use rules::Hold;
 use rules::Running;
@@ -12,9 +13,23 @@ use rules::Thread;
 use tables::lives::count_live;
 use tables::lookup::thread_at;
 use tables::lookup::timeslice_at;
+use tables::records::is_linked;
 use text::put_byte;
 use text::put_bytes;
 use text::put_decimal;
+
+// The thread that a link leads to; 0 without a link.
+fn linked_thread(hold: Hold) -> u8
+    ensures { λ r. ⌜ r ≡ linkedThread hold ⌝ }
+{
+    match hold {
+        Hold::Ready => 0,
+        Hold::Idle => 0,
+        Hold::Blocked => 0,
+        Hold::Calling(server) => server,
+        Hold::Helping(server) => server,
+    }
+}
 
 // A space before the next thread.
 fn put_next(out: &mut [u8], at: usize, n: u8) -> usize
@@ -35,19 +50,11 @@ fn put_later(out: &mut [u8], at: usize, threads: [Thread; 128], links: u8, from:
         left -= 1;
         let thread = thread_at(threads, n);
         let hold = thread.hold;
-        match hold {
-            Hold::Calling(server) => {
-                place = put_next(out, place, server);
-                n = server;
-            }
-            Hold::Helping(server) => {
-                place = put_next(out, place, server);
-                n = server;
-            }
-            Hold::Ready | Hold::Idle | Hold::Blocked => {
-                return put_byte(out, place, b'\n');
-            }
+        if !is_linked(hold) {
+            return put_byte(out, place, b'\n');
         }
+        n = linked_thread(hold);
+        place = put_next(out, place, n);
     }
     put_byte(out, place, b'\n')
 }

@@ -1,6 +1,7 @@
 -- The threads written and those that are left make the whole; the line ends at a thread without a link, or where no link may be followed.
 use native.Mathlib.Omega.{arith}
-use mathlib.Core.Path.{refl, sym, ap, _∙_}
+use mathlib.Core.Path.{sym, ap, _∙_}
+use borrow.Author.Tests.{not-true, not-false}
 use Rattle.rules.specs.declared.Thread.{Thread}
 use Rattle.rules.specs.Key.{bytes}
 use Rattle.rules.specs.Reason.{spaced}
@@ -8,7 +9,6 @@ use Rattle.text.proofs.Puts.{keeps}
 use Rattle.reason_sheet.specs.Later.{later}
 use Rattle.reason_sheet.proofs.Putting.{Going, begin, more, finish}
 use Rattle.reason_sheet.proofs.Chains.{line-out, line-ends, line-goes-on}
-use borrow.Author.Needs.{needs}
 use Rattle.reason_sheet.proofs.chain.put_later.Statement.{statement}
 use Rattle.reason_sheet.proofs.chain.put_later.Tie as tie
 
@@ -25,8 +25,24 @@ loop-holds c = begin _ _ _
 sub-left : tie.Need-sub-left Inv-loop μ-loop
 sub-left c = omega (arith, c .loop-test .taken)
 
-enum-known-hold : tie.Need-enum-known-hold Inv-loop μ-loop
-enum-known-hold c = search needs
+same-length : tie.Need-same-length Inv-loop μ-loop
+same-length c =
+    let feed = c .before .before in
+    keeps (feed .put-byte .ensures) ∙ keeps (feed .before .before .before .before .before .before .loop .inv .put)
+
+returns : tie.Need-returns Inv-loop μ-loop
+unfolding bytes
+returns c =
+    let feed = c .before .before in
+    let branch = feed .before .before in
+    let tested = branch .before in
+    let read = tested .before in
+    let turn = read .before in
+    let loop = turn .before in
+    let start = loop .before .before in
+    finish (loop .loop .inv) (feed .put-byte .ensures)
+    (line-ends (loop .loop .left) (start .args .threads) (loop .loop .n) (turn .loop-test .taken)
+    (ap (λ (t : Thread). t .hold) (read .thread-at .ensures)) (sym (tested .is-linked .ensures) ∙ not-true _ (branch .if1 .taken)))
 
 loop-less : tie.Need-loop-less Inv-loop μ-loop
 loop-less c =
@@ -36,52 +52,17 @@ loop-less c =
 loop-again : tie.Need-loop-again Inv-loop μ-loop
 loop-again c =
     let put = c .before .before in
-    let told = put .before .before .before in
-    let read = told .before .before in
+    let next = put .before .before in
+    let branch = next .before in
+    let tested = branch .before in
+    let read = tested .before in
     let turn = read .before in
     let loop = turn .before in
     let start = loop .before .before in
-    let held = sym (told .hold .given .1) ∙ ap (λ (t : Thread). t .hold) (read .thread-at .ensures) in
     more (loop .loop .inv) _ (put .put-next .ensures)
-    (line-goes-on (loop .loop .left) (start .args .threads) (loop .loop .n) (turn .loop-test .taken) _ _ held refl)
-
-enum-known-hold-2 : tie.Need-enum-known-hold-2 Inv-loop μ-loop
-enum-known-hold-2 c = search needs
-
-loop-less-2 : tie.Need-loop-less-2 Inv-loop μ-loop
-loop-less-2 c =
-    let turn = c .before .before .before .before .before .before .before .before in
-    omega (arith, turn .loop-test .taken)
-
-loop-again-2 : tie.Need-loop-again-2 Inv-loop μ-loop
-loop-again-2 c =
-    let put = c .before .before in
-    let told = put .before .before .before in
-    let read = told .before .before in
-    let turn = read .before in
-    let loop = turn .before in
-    let start = loop .before .before in
-    let held = sym (told .hold2 .given .1) ∙ ap (λ (t : Thread). t .hold) (read .thread-at .ensures) in
-    more (loop .loop .inv) _ (put .put-next2 .ensures)
-    (line-goes-on (loop .loop .left) (start .args .threads) (loop .loop .n) (turn .loop-test .taken) _ _ held refl)
-
-same-length : tie.Need-same-length Inv-loop μ-loop
-same-length c =
-    let feed = c .before .before in
-    keeps (feed .put-byte .ensures) ∙ keeps (feed .before .before .before .before .before .loop .inv .put)
-
-returns : tie.Need-returns Inv-loop μ-loop
-unfolding bytes
-returns c =
-    let feed = c .before .before in
-    let branch = feed .before .before in
-    let read = branch .before in
-    let turn = read .before in
-    let loop = turn .before in
-    let start = loop .before .before in
-    finish (loop .loop .inv) (feed .put-byte .ensures)
-    (line-ends (loop .loop .left) (start .args .threads) (loop .loop .n) (turn .loop-test .taken) _
-    (ap (λ (t : Thread). t .hold) (read .thread-at .ensures)) (branch .match .keys3))
+    (line-goes-on (loop .loop .left) (start .args .threads) (loop .loop .n) (turn .loop-test .taken)
+    (ap (λ (t : Thread). t .hold) (read .thread-at .ensures)) (sym (tested .is-linked .ensures) ∙ not-false _ (branch .if1 .left))
+    (next .linked-thread .ensures))
 
 same-length-2 : tie.Need-same-length-2 Inv-loop μ-loop
 same-length-2 c = let feed = c .before .before in keeps (feed .put-byte2 .ensures) ∙ keeps (feed .before .before .before .loop .inv .put)
@@ -99,5 +80,5 @@ returns-2 c =
 pub put-later-spec : {M : Type 1} → statement M
 put-later-spec =
     tie.close
-    (tie.spec Inv-loop μ-loop loop-holds sub-left (λ _ _. tt) enum-known-hold (λ _ _. tt) loop-less loop-again enum-known-hold-2 (λ _ _. tt)
-    loop-less-2 loop-again-2 (λ _ _. tt) same-length returns (λ _ _. tt) same-length-2 returns-2)
+    (tie.spec Inv-loop μ-loop loop-holds sub-left (λ _ _. tt) (λ _ _. tt) (λ _ _. tt) same-length returns (λ _ _. tt) (λ _ _. tt) loop-less
+    loop-again (λ _ _. tt) same-length-2 returns-2)
