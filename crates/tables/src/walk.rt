@@ -17,43 +17,33 @@ pub fn walk(threads: [Thread; 128], live: u8, from: u8) -> Chain
     let mut helper: u8 = 0;
     let mut helping: u8 = 0;
     let mut last = LastThread::None;
-    while links < live {
-        let k = index(at);
-        if 128 <= k {
-            return Chain {
-                looped: false,
-                end: at,
-                links,
-                count,
-                helper,
-                helping,
-                last,
-            };
+    // With no live thread no link may be followed: a loop before the first.
+    let mut looped = live == 0;
+    while !looped {
+        // Source 001, "Improved Algorithm for Dependency Tracking":
+        // "follows the donation links" to "a thread that has no outgoing donation
+        // link". Helping links are followed likewise.
+        let here = at;
+        let k = index(here);
+        // Past the end of the table is no thread, and no link.
+        let mut hold = Hold::Ready;
+        if k < 128 {
+            let thread = threads[k];
+            hold = thread.hold;
         }
-        let thread = threads[k];
-        let hold = thread.hold;
+        let mut helps = false;
         match hold {
-            // A donation link.
             Hold::Calling(server) => {
-                last = LastThread::Is(at);
                 at = server;
-                links += 1;
-                count += 1;
             }
-            // A helping link: the donation count begins anew.
             Hold::Helping(server) => {
-                helper = at;
-                last = LastThread::Is(at);
                 at = server;
-                links += 1;
-                count = 0;
-                helping += 1;
+                helps = true;
             }
-            // The chain's end.
             Hold::Ready | Hold::Idle | Hold::Blocked => {
                 return Chain {
                     looped: false,
-                    end: at,
+                    end: here,
                     links,
                     count,
                     helper,
@@ -62,6 +52,21 @@ pub fn walk(threads: [Thread; 128], live: u8, from: u8) -> Chain
                 };
             }
         }
+        last = LastThread::Is(here);
+
+        // "Direct Switching": "counts the number of consecutive donation links";
+        // at "a helping link, the donation counter is reset to zero".
+        links += 1;
+        if helps {
+            count = 0;
+            helper = here;
+            helping += 1;
+        } else {
+            count += 1;
+        }
+
+        // "Livelock Detection": the paper counts helping links, document 01 all.
+        looped = links == live;
     }
     Chain {
         looped: true,
