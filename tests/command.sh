@@ -257,7 +257,7 @@ run "after an interruption" 0 key "a file"; prints "$work/k1.key"
 
 # ./check: rt ci says the words given and ends with the status given; the outside tests end as told.
 ci() { printf '%s\n' "$2" >"$work/ci"; echo "$1" >"$work/ci.status"; } # STATUS WORDS
-names="sequences compare reasons words documents sentences command"
+names="sequences compare wakes reasons words documents sentences command"
 tests() { # [NAME of the one that fails]
     local one
     for one in $names; do echo 'echo "given: $*"' >"$repository/tests/$one.sh"; done

@@ -44,7 +44,7 @@ use Rattle.tables.proofs.ReleaseLoop.{release-is}
 use Rattle.tables.proofs.Searches.{top-is}
 use Rattle.tables.proofs.Recodings.{Freed, park-coded}
 use Rattle.rules.proofs.Tables.Writes.{donate-relabels}
-use Rattle.dispatcher.proofs.Stored.{live-is, turns-fit, stored-with}
+use Rattle.dispatcher.proofs.Stored.{turns-full, live-is, turns-fit, stored-with}
 
 -- what a look finds: the topmost timeslice in Queue, its chain and what its end says
 pub record Look (s : State) (t : ℕ) (c : Chain) (v : Verdict) : Type 0 where
@@ -234,12 +234,13 @@ pub record Choosing (first : Machine) (start live lives : ℕ) (order : List ℕ
   pub few : links + 128 * looks ≤ 16768
   pub rest : chooseFrom looks (record { state = stateOf m live order; links = links }) ≡ choose (before first start)
 
-pub begin : (m : Machine) (links looks : ℕ) (codes heights : List ℕ) → Choosable m links → length (m .order) ≡ 128
-    → length (m .threads) ≡ 128 → length (m .timeslices) ≡ 128
-    → looks ≡ m .«live_timeslices» + 2 → Coded (m .timeslices) (m .order) (m .«live_timeslices») codes heights
+pub begin : (m : Machine) (links looks : ℕ) (codes heights : List ℕ) → Choosable m links → length (m .threads) ≡ 128
+    → length (m .timeslices) ≡ 128 → looks ≡ m .«live_timeslices» + 2
+    → Coded (m .timeslices) (m .order) (m .«live_timeslices») codes heights
     → Choosing m links (m .«live_timeslices») (m .«live_threads») (m .order) m links looks codes heights
 unfolding choose
-begin m links looks codes heights c o ths ts e r =
+begin m links looks codes heights c ths ts e r =
+    let full = turns-full m (c .exact) in
     let fits = turns-fit m (c .exact) in
     let two : looks ≡ suc (suc (length (take (m .«live_timeslices») (m .order)))) =
     rw (length-take-le (m .«live_timeslices») (m .order) (omega arith)) (omega arith) in
@@ -249,7 +250,7 @@ begin m links looks codes heights c o ths ts e r =
       turned = refl;
       counted = refl;
       fits = fits;
-      entries = o;
+      entries = full;
       threads = ths;
       timeslices = ts;
       coded = r;

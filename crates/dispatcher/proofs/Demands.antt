@@ -5,9 +5,8 @@ use native.Mathlib.Omega.{arith}
 use mathlib.Core.Path.{_≡_, refl, sym, ap, _∙_}
 use mathlib.Core.List.{List, [], _∷_}
 use mathlib.Core.Bool.{Bool, true, false, cond}
-use lib.ListN.{length}
 use Rattle.rules.specs.declared.Event.{Event}
-use Rattle.rules.specs.State.{State, Plain, forget, limit, empty, whoRuns, whoPays, donationCount}
+use Rattle.rules.specs.State.{State, Plain, forget, empty, whoRuns, whoPays, donationCount}
 use Rattle.rules.specs.Refusals.{refusal}
 use Rattle.rules.specs.Events.{midway, settle, dispatchAfter}
 use Rattle.rules.specs.Events as events
@@ -16,7 +15,7 @@ use Rattle.rules.specs.Lists.{Ranged, AllRanged, linksOf}
 use Rattle.rules.proofs.Basics.Views.{Two, yes-true, no-false, two}
 use Rattle.rules.proofs.Soundness.Places.{sound-of}
 use Rattle.rules.proofs.Events.Hands.{linkLimit}
-use Rattle.rules.proofs.Agreement.{agrees}
+use Rattle.rules.proofs.Agreement.{answered-number, agrees}
 use Rattle.dispatcher.specs.declared.Machine.{Machine}
 use Rattle.dispatcher.specs.declared.Answered.{Answered}
 use Rattle.dispatcher.specs.Shown.{shown, stored, soundMachine, emptyMachine}
@@ -37,17 +36,13 @@ pub record Ends (e : Event) (m : Machine) (r : Answered) : Type 0 where
   pub refused : (r .refusal ≡ 0 → ⊥) → (r .machine ≡ m) × (r .links ≡ 0)
 
 -- the number and the links of what the definitions answer
-number-after : (k : ℕ) (e : Event) (s : State) → dispatchAfter k e s .refusal ≡ k
-number-after zero e s = refl
-number-after (suc k) e s = refl
-
 links-after : (k : ℕ) (e : Event) (s : State) → (k ≡ 0 → ⊥) → dispatchAfter k e s .links ≡ 0
 links-after zero e s n = absurd (n refl)
 links-after (suc k) e s n = refl
 
 answer-number : (b : Bool) (e : Event) (s : State) → events.offerIf b e s .refusal ≡ cond b (refusal e (forget s)) 1
 unfolding events.dispatch
-answer-number true e s = number-after (refusal e (forget s)) e s
+answer-number true e s = answered-number (refusal e (forget s)) e s
 answer-number false e s = refl
 
 answer-links : (b : Bool) (e : Event) (s : State) → (cond b (refusal e (forget s)) 1 ≡ 0 → ⊥) → events.offerIf b e s .links ≡ 0
@@ -73,19 +68,19 @@ demand-1 e m r f a =
 pub record Does (e : Event) (m : Machine) (r : Answered) : Type 0 where
   pub links : r .links ≡ settle (midway e (shown m)) .links
   pub state : shown (r .machine) ≡ settle (midway e (shown m)) .state
-  pub only : (n : Machine) → length (n .order) ≡ limit → stored n ≡ true → shown n ≡ settle (midway e (shown m)) .state → n ≡ r .machine
+  pub only : (n : Machine) → stored n ≡ true → shown n ≡ settle (midway e (shown m)) .state → n ≡ r .machine
 
-pub demand-2 : (e : Event) (m : Machine) (r : Answered) → length (r .machine .order) ≡ limit → soundMachine m ≡ true
-    → refusal e (forget (shown m)) ≡ 0 → Answers (answerTo e m) m r → Does e m r
+pub demand-2 : (e : Event) (m : Machine) (r : Answered) → soundMachine m ≡ true → refusal e (forget (shown m)) ≡ 0
+    → Answers (answerTo e m) m r → Does e m r
 unfolding events.dispatch
-demand-2 e m r full h accepted a =
+demand-2 e m r h accepted a =
     let answer : answerTo e m ≡ events.accepted (settle (midway e (shown m))) =
     ap (λ (b : Bool). events.offerIf b e (shown m)) h ∙ ap (λ (k : ℕ). dispatchAfter k e (shown m)) accepted in
     let state = a .state ∙ ap (λ (z : events.Answered). z .state) answer in
     record {
       links = a .links ∙ ap (λ (z : events.Answered). z .links) answer;
       state = state;
-      only = λ n long exact shows. one-form n (r .machine) long full exact (a .exact ∙ sound-stored m h) (shows ∙ sym state);
+      only = λ n exact shows. one-form n (r .machine) exact (a .exact ∙ sound-stored m h) (shows ∙ sym state);
     }
 
 -- DEMAND 3. After an event, between the code's answer, document 01's machine s before it and the plain machine p before it: the refusal

@@ -14,7 +14,7 @@ use Rattle.rules.proofs.Basics.Views.{Two, yes-true, no-false, two}
 use Rattle.dispatcher.specs.declared.Machine.{Machine}
 use Rattle.tables.specs.Timeslices.{sliceOf, placeOf}
 use Rattle.dispatcher.specs.Shown.{shown, stored}
-use Rattle.dispatcher.proofs.Stored.{live-is, turns-fit, free-zero}
+use Rattle.dispatcher.proofs.Stored.{turns-full, live-is, turns-fit, free-zero}
 
 -- a timeslice is what it is without its place, and its place
 same-timeslice : (x y : Timeslice) → sliceOf x ≡ sliceOf y → placeOf x ≡ placeOf y → x ≡ y
@@ -32,12 +32,12 @@ same-timeslices (x ∷ xs) (y ∷ ys) s p =
     let tail-places : map placeOf xs ≡ map placeOf ys = cc in
     λ i. same-timeslice x y head-slice head-place i ∷ same-timeslices xs ys tail-slices tail-places i
 
--- two turn orders of the same length with the same front, and 0 behind it
-same-order : (m n : Machine) → stored m ≡ true → stored n ≡ true → length (m .order) ≡ limit → length (n .order) ≡ limit
-    → m .«live_timeslices» ≡ n .«live_timeslices» → take (m .«live_timeslices») (m .order) ≡ take (n .«live_timeslices») (n .order)
-    → m .order ≡ n .order
-same-order m n x y full full′ live front =
-    ext-getD 0 (m .order) (n .order) (full ∙ sym full′) (λ i h. by i (omega (arith, full)) (two (ltb i (m .«live_timeslices»))))
+-- two turn orders with the same front, and 0 behind it
+same-order : (m n : Machine) → stored m ≡ true → stored n ≡ true → m .«live_timeslices» ≡ n .«live_timeslices»
+    → take (m .«live_timeslices») (m .order) ≡ take (n .«live_timeslices») (n .order) → m .order ≡ n .order
+same-order m n x y live front =
+    ext-getD 0 (m .order) (n .order) (turns-full m x ∙ sym (turns-full n y))
+    (λ i h. by i (omega (arith, turns-full m x)) (two (ltb i (m .«live_timeslices»))))
   where
     by : (i : ℕ) → i < limit → Two (ltb i (m .«live_timeslices»)) → getD (m .order) i 0 ≡ getD (n .order) i 0
     by i h (yes-true e) =
@@ -49,19 +49,18 @@ same-order m n x y full full′ live front =
         let late = ltb-false i (m .«live_timeslices») e in
         free-zero m x i late h ∙ sym (free-zero n y i (omega arith) h)
 
--- THE ONE FORM. (An array of 128 has 128 entries: the lengths hold of every machine that the type can hold.)
-pub one-form : (m n : Machine) → length (m .order) ≡ limit → length (n .order) ≡ limit
-    → stored m ≡ true → stored n ≡ true → shown m ≡ shown n → m ≡ n
-one-form m n full full′ h h′ same =
+-- THE ONE FORM
+pub one-form : (m n : Machine) → stored m ≡ true → stored n ≡ true → shown m ≡ shown n → m ≡ n
+one-form m n h h′ same =
     let threads = ap (λ (s : State). s .threads) same in
     let front = ap (λ (s : State). s .order) same in
     let live : m .«live_timeslices» ≡ n .«live_timeslices» =
-    sym (length-take-le (m .«live_timeslices») (m .order) (omega (arith, full, turns-fit m h)))
+    sym (length-take-le (m .«live_timeslices») (m .order) (omega (arith, turns-full m h, turns-fit m h)))
     ∙ ap length front
-    ∙ length-take-le (n .«live_timeslices») (n .order) (omega (arith, full′, turns-fit n h′)) in
+    ∙ length-take-le (n .«live_timeslices») (n .order) (omega (arith, turns-full n h′, turns-fit n h′)) in
     let timeslices = same-timeslices (m .timeslices) (n .timeslices) (ap (λ (s : State). s .slices) same)
     (ap (λ (s : State). s .places) same) in
-    let order = same-order m n h h′ full full′ live front in
+    let order = same-order m n h h′ live front in
     let counted : m .«live_threads» ≡ n .«live_threads» = live-is m h ∙ ap liveThreads threads ∙ sym (live-is n h′) in
     λ i. record {
       threads = threads i;

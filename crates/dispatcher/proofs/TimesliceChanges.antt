@@ -6,7 +6,7 @@ use mathlib.Core.Bool.{Bool, true, false, cond}
 use mathlib.Core.Option.{some}
 use native.Mathlib.Omega.{arith}
 use native.Mathlib.Numerals.{add-one}
-use lib.ListN.{length, getD, set, take}
+use lib.ListN.{length, getD, set, take, length-set}
 use lib.Dec.{eqb}
 use borrow.Author.Tests.{eq-eqb, ne-eqb}
 use lib.Seq.{map-set-same, take-suc-set, getD-set-other, length-take-le, take-append-seam, getD-take, take-take, getD-append-seam}
@@ -37,7 +37,7 @@ use Rattle.rules.proofs.Order.Orders.{length-without}
 use Rattle.tables.proofs.Lookups.{slice-at, map-set}
 use Rattle.tables.proofs.ReleaseLoop.{release-is}
 use Rattle.tables.proofs.Detaching.{ranked-slices, ranked-places, detached-is}
-use Rattle.dispatcher.proofs.Stored.{live-is, turns-fit, free-zero, stored-of}
+use Rattle.dispatcher.proofs.Stored.{turns-full, live-is, turns-fit, free-zero, stored-of}
 
 -- a new timeslice, last in turn order
 module _ (m : Machine) (j i t n p q : ℕ) (at : j ≡ t) (end : i ≡ m .«live_timeslices») (short : m .«live_timeslices» < 128) where
@@ -52,21 +52,21 @@ module _ (m : Machine) (j i t n p q : ℕ) (at : j ≡ t) (end : i ≡ m .«live
         running = m .running;
       }
 
-  pub gift-shown : length (m .order) ≡ 128 → shown gift ≡ withGiven t n p q (shown m)
+  pub gift-shown : stored m ≡ true → shown gift ≡ withGiven t n p q (shown m)
   unfolding withGiven given last
-  gift-shown full =
+  gift-shown ok =
       let x : Timeslice = record { owner = n; priority = p; quantum = q; left = q; place = Queue } in
       let slices : map sliceOf (set (m .timeslices) j x) ≡ set (map sliceOf (m .timeslices)) t (sliceOf x) =
       map-set sliceOf (m .timeslices) j x ∙ ap (λ (k : ℕ). set (map sliceOf (m .timeslices)) k (sliceOf x)) at in
       let places : map placeOf (set (m .timeslices) j x) ≡ set (map placeOf (m .timeslices)) t Queue =
       map-set placeOf (m .timeslices) j x ∙ ap (λ (k : ℕ). set (map placeOf (m .timeslices)) k Queue) at in
       let order : take (m .«live_timeslices» + 1) (set (m .order) i t) ≡ take (m .«live_timeslices») (m .order) ++ (t ∷ []) =
-      rw (end, add-one (m .«live_timeslices»)) (take-suc-set (m .order) (m .«live_timeslices») t (omega arith)) in
+      rw (end, add-one (m .«live_timeslices»)) (take-suc-set (m .order) (m .«live_timeslices») t (omega (arith, turns-full m ok))) in
       λ k. record { threads = m .threads; slices = slices k; places = places k; order = order k; running = m .running }
 
   pub gift-exact : stored m ≡ true → stored gift ≡ true
   gift-exact ok =
-      stored-of gift (live-is m ok) (omega arith)
+      stored-of gift (length-set (m .order) i t ∙ turns-full m ok) (live-is m ok) (omega arith)
       (λ k past fits. getD-set-other (m .order) i k t 0 (λ e. absurd (omega arith)) ∙ free-zero m ok k (omega arith) fits)
 
 -- so much is left of a timeslice now, at this place
@@ -123,17 +123,18 @@ pub turned-exact : (m : Machine) (t : ℕ) (back : List ℕ) (ts : List Timeslic
     → Turned t (m .«live_timeslices») (m .order) back
     → stored (movedTo (m .threads) ts back m) ≡ true
 turned-exact m t back ts ok d =
-    stored-of _ (live-is m ok) (turns-fit m ok) (λ k past fits. d .free k (omega arith) ∙ free-zero m ok k past fits)
+    stored-of _ (d .size ∙ turns-full m ok) (live-is m ok) (turns-fit m ok)
+    (λ k past fits. d .free k (omega arith) ∙ free-zero m ok k past fits)
 
 -- a timeslice is struck out: its slot is free, and one entry of the turn order less is live
-module _ (m : Machine) (t : ℕ) (ok : stored m ≡ true) (full : length (m .order) ≡ 128)
-    (listed : member t (take (m .«live_timeslices») (m .order)) ≡ true) where
+module _ (m : Machine) (t : ℕ) (ok : stored m ≡ true) (listed : member t (take (m .«live_timeslices») (m .order)) ≡ true) where
   abbrev turns : List ℕ
   turns = take (m .«live_timeslices») (m .order)
 
   one-less : suc (length (without t turns)) ≡ m .«live_timeslices»
   one-less =
-      length-without t turns listed ∙ length-take-le (m .«live_timeslices») (m .order) (omega (arith, turns-fit m ok))
+      length-without t turns listed
+      ∙ length-take-le (m .«live_timeslices») (m .order) (omega (arith, turns-full m ok, turns-fit m ok))
 
   pub some-live : 1 ≤ m .«live_timeslices»
   some-live = omega (arith, one-less)
@@ -171,7 +172,8 @@ module _ (m : Machine) (t : ℕ) (ok : stored m ≡ true) (full : length (m .ord
 
     pub fewer-exact : (ts : List Timeslice) → stored (fewer ts) ≡ true
     fewer-exact ts =
-        stored-of (fewer ts) (live-is m ok) (omega (arith, turns-fit m ok)) (λ k past fits. free k past fits (same k _))
+        stored-of (fewer ts) (d .size ∙ turns-full m ok) (live-is m ok) (omega (arith, turns-fit m ok))
+        (λ k past fits. free k past fits (same k _))
       where
         free : (k : ℕ) → m .«live_timeslices» - 1 ≤ k → k < 128 → Same k (length (without t turns)) → getD rest k 0 ≡ 0
         free k past fits (equal e _) = rw e last-zero

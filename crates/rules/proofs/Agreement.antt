@@ -57,6 +57,11 @@ pub agrees-dispatch : (e : Event) (s : State) → Sound s → Ranged e → Agree
 unfolding dispatch plainOffer
 agrees-dispatch e s x f = agrees-after e s x f (refusal e (forget s)) refl
 
+-- the number of an answer is the refusal's
+pub answered-number : (k : ℕ) (e : Event) (s : State) → dispatchAfter k e s .refusal ≡ k
+answered-number zero e s = refl
+answered-number (suc k) e s = refl
+
 -- a sound machine is not refused with 1
 pub offer-sound : (e : Event) (s : State) → sound s ≡ true → offer e s ≡ dispatch e s
 unfolding offer

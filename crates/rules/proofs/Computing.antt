@@ -11,7 +11,7 @@ use Rattle.rules.specs.Sound.{shaped, placed, settled, sound}
 use Rattle.rules.specs.Events.{releases, create, withGiven, give, callDonates, callHelps, call, reply, block, wake, depletes}
 use Rattle.rules.specs.Events.{spends, charge, afterWalk, abort, withRefilled, refill, remove, rank, dispatch, offer}
 use Rattle.rules.specs.Plain.{judgeFrom, judge, plainOffer}
-use Rattle.rules.specs.Lists.{run, after, plainRun}
+use Rattle.rules.specs.Lists.{run, after, linksInAll, plainRun}
 use Rattle.rules.specs.EventFile.{recordsOf, fileOf, recordAt, eventsAfter, fileRefusal, eventsOf, opened, stepped, started, allFit}
 use Rattle.rules.specs.EventFile.{appendRefusal, appended}
 use Rattle.rules.specs.Steps.{eventsIn, appendedAll}
@@ -24,7 +24,7 @@ unfolding member distinct all filter below liveThreads earlier standsAbove topmo
     setService created donate replied aborted linksCut removed ownOf setLeft given last without toBack charged refilled struck
     ranked releasedPlaces release park retry chooseFrom choose shaped placed settled sound releases create withGiven give
     callDonates callHelps call reply block wake depletes spends charge afterWalk abort withRefilled refill remove rank dispatch
-    offer judgeFrom judge plainOffer run after plainRun allFit recordsOf fileOf recordAt eventsAfter fileRefusal eventsOf opened
+    offer judgeFrom judge plainOffer run after linksInAll plainRun allFit recordsOf fileOf recordAt eventsAfter fileRefusal eventsOf opened
     stepped started appendRefusal appended eventsIn appendedAll bytes digits decimal columns line lines fileLine key shortLines
     shortKey plainLines plainKey threadsFrom threadsOn aboveBelow above cause spaced causeLine causeLines reasonOf reasonRefusal
     machineAfter reason

@@ -1,5 +1,5 @@
 -- Lists of events, run on either machine: each event gets the machine that the last one handed back.
-use Prim.Native.Nat.{ℕ, _≤_}
+use Prim.Native.Nat.{ℕ, _≤_, _+_}
 use mathlib.Core.Path.{_≡_}
 use mathlib.Core.List.{List, [], _∷_, map}
 use Rattle.rules.specs.declared.Thread.{Thread}
@@ -20,6 +20,15 @@ run (e ∷ es) s = let a = offer e s in a ∷ run es (a .state)
 unfoldable pub after : List Event → State → State
 after [] s = s
 after (e ∷ es) s = after es (offer e s .state)
+
+-- the refusal numbers
+abbrev pub numbersOf : List Answered → List ℕ
+numbersOf l = map (λ a. a .refusal) l
+
+-- the links followed in all
+unfoldable pub linksInAll : List Answered → ℕ
+linksInAll [] = 0
+linksInAll (a ∷ rest) = a .links + linksInAll rest
 
 unfoldable pub plainRun : List Event → Plain → List PlainAnswered
 plainRun [] p = []

@@ -126,7 +126,7 @@ module _ (threads : List Thread) (ts : List Timeslice) (order : List ℕ) (lives
       ap (λ (k : ℕ). settledBy threads (chainWithin k threads ts) now (topmostAt inQueue s)) e
       ∙ settled-on s (topmostAt inQueue s) now
 
-  module _ (full : length threads ≡ 128) (long : length ts ≡ 128) where
+  module _ (full : length threads ≡ 128) (long : length ts ≡ 128) (turns-full : length order ≡ 128) where
     slots : eqb (length (map sliceOf ts)) limit ≡ true
     slots = eq-eqb (length (map sliceOf ts)) limit (length-map ts sliceOf ∙ long)
 
@@ -162,7 +162,8 @@ module _ (threads : List Thread) (ts : List Timeslice) (order : List ℕ) (lives
               (below-of unlisted limit (λ t h. and-true-left (unlisted t) (unplaced t) (number t h .2)));
         } in
         let entries = below-of (λ i. entryFree order live i) limit (λ n h. number n h .0) in
-        let stored = and-true-both (counted && leb live limit) _ (and-true-both counted (leb live limit) (y .0) (y .1)) entries in
+        let sized = eq-eqb (length order) limit turns-full in
+        let stored = and-true-both _ _ (and-true-both _ _ (and-true-both _ _ sized (y .0)) (y .1)) entries in
         let listed = all-of truly turns (λ t h. sym (place-tests lived t) ∙ turn t h .3) in
         let exact = all-of timed turns (λ t h. turn t h .4) in
         let free = below-of unplaced limit (λ t h. and-true-right (unlisted t) (unplaced t) (number t h .2)) in
@@ -177,9 +178,9 @@ module _ (threads : List Thread) (ts : List Timeslice) (order : List ℕ) (lives
     unfolding soundParts sound placed
     from-sound e =
         let stored =
-        and3 counted (leb live limit) (below limit (λ i. entryFree order live i))
+        and4 (eqb (length order) limit) counted (leb live limit) (below limit (λ i. entryFree order live i))
         (and-true-left (storedParts threads order lives live) (sound s) e) in
-        let lived = eqb-true lives (liveThreads threads) (stored .0) in
+        let lived = eqb-true lives (liveThreads threads) (stored .1) in
         let room = eqb (length (map placeOf ts)) limit in
         let held = room && all truly turns && all timed turns && below limit unplaced in
         let parts = and3 (shaped (forget s)) held (settled s) (and-true-right (storedParts threads order lives live) (sound s) e) in
@@ -197,7 +198,7 @@ module _ (threads : List Thread) (ts : List Timeslice) (order : List ℕ) (lives
         (below-at unplaced limit (put .3) t h) in
         let number : (n : ℕ) → n < limit → numberTest threads ts order live n ≡ true =
         λ n h. and-true-both (entryFree order live n && threadTest threads n) (slotTest ts order live n)
-        (and-true-both (entryFree order live n) (threadTest threads n) (below-at (λ i. entryFree order live i) limit (stored .2) n h)
+        (and-true-both (entryFree order live n) (threadTest threads n) (below-at (λ i. entryFree order live i) limit (stored .3) n h)
         (thread n h))
         (slot n h) in
         let turn : (t : ℕ) → member t turns ≡ true → turnTest threads ts order lives live t ≡ true =
@@ -210,7 +211,7 @@ module _ (threads : List Thread) (ts : List Timeslice) (order : List ℕ) (lives
         (all-at ranged turns (shape .ranges) t h))
         (place-tests lived t ∙ all-at truly turns (put .1) t h))
         (all-at timed turns (put .2) t h) in
-        let counts = and-true-both counted (leb live limit) (stored .0) (stored .1) in
+        let counts = and-true-both counted (leb live limit) (stored .1) (stored .2) in
         let all-numbers = and-true-both (counted && leb live limit) numbers counts
         (below-of (λ n. numberTest threads ts order live n) limit number) in
         let all-turns = and-true-both _ places all-numbers (all-of (λ t. turnTest threads ts order lives live t) turns turn) in

@@ -4,7 +4,7 @@ use Prim.Native.Nat.{ℕ}
 use mathlib.Core.List.{List, map}
 use mathlib.Core.Bool.{Bool, false, _&&_, _||_}
 use mathlib.Core.Option.{Option, none, some}
-use lib.ListN.{getD, take}
+use lib.ListN.{length, getD, take}
 use lib.Dec.{leb, ltb, eqb}
 use Rattle.rules.specs.declared.Thread.{Thread}
 use Rattle.rules.specs.declared.Timeslice.{Timeslice}
@@ -39,10 +39,13 @@ ownersIn timeslices listed = map (λ t. ownerAt (map sliceOf timeslices) t) list
 abbrev pub entryFree : List ℕ → ℕ → ℕ → Bool
 entryFree order live i = ltb i live || eqb (getD order i 0) 0
 
--- the stored form is the only one of its state: true counts, and 0 in the free entries
+-- the stored form is the only one of its state: an entry of the turn order for each number, true counts, and 0 in the free entries
 abbrev pub storedParts : List Thread → List ℕ → ℕ → ℕ → Bool
 storedParts threads order live-threads live =
-    eqb live-threads (liveThreads threads) && leb live limit && below limit (λ i. entryFree order live i)
+    eqb (length order) limit
+    && eqb live-threads (liveThreads threads)
+    && leb live limit
+    && below limit (λ i. entryFree order live i)
 
 -- the whole test
 unfoldable pub soundParts : List Thread → List Timeslice → List ℕ → ℕ → ℕ → Running → Bool

@@ -61,11 +61,12 @@ module _ (z live : ℕ) (first : List ℕ) (from : ℕ) where
     pub end : n ≡ entriesOf live
     pub inside : i < n
     pub full : length order ≡ 128
+    pub size : length order ≡ length first
     pub turns : take i order ++ drop (suc i) (take live order) ≡ take from first ++ drop (suc from) (take live first)
     pub free : (k : ℕ) → n ≤ k → getD order k 0 ≡ getD first k 0
 
   pub shift : (n : ℕ) → n ≡ entriesOf live → from < entriesOf live → length first ≡ 128 → Shifting n first from
-  shift n e i full = record { end = e; inside = omega arith; full = full; turns = refl; free = λ k h. refl }
+  shift n e i full = record { end = e; inside = omega arith; full = full; size = refl; turns = refl; free = λ k h. refl }
 
   pub up : (n : ℕ) (order : List ℕ) (i : ℕ) → Shifting n order i → i + 1 < n → Shifting n (set order i (getD order (i + 1) 0)) (i + 1)
   up n order i s short =
@@ -82,6 +83,7 @@ module _ (z live : ℕ) (first : List ℕ) (from : ℕ) where
         end = s .end;
         inside = omega arith;
         full = length-set order i (getD order (i + 1) 0) ∙ s .full;
+        size = length-set order i (getD order (i + 1) 0) ∙ s .size;
         turns = rw (add-one i) (moved ∙ ap (λ (l : List ℕ). take i order ++ l) (sym at) ∙ s .turns);
         free = λ k h. getD-set-other order i k (getD order (i + 1) 0) 0 (λ e. absurd (omega arith)) ∙ s .free k h;
       }
@@ -93,11 +95,12 @@ module _ (z live : ℕ) (first : List ℕ) (from : ℕ) where
       let none : drop (suc i) (take live order) ≡ [] = turns-out order live (suc i) (s .full) (omega (arith, s .end)) in
       let all : take i order ≡ take from first ++ drop (suc from) (take live first) =
       sym (append-nil (take i order)) ∙ ap (λ (l : List ℕ). take i order ++ l) (sym none) ∙ s .turns in
-      let size : length (set order i z) ≡ 128 = length-set order i z ∙ s .full in
+      let full : length (set order i z) ≡ 128 = length-set order i z ∙ s .full in
       let all-but-one : entriesOf live ≡ suc i = omega (arith, s .end, s .inside) in
       let last-entry : take live (set order i z) ≡ take (suc i) (set order i z) =
-      take-entries (set order i z) live size ∙ ap (λ (k : ℕ). take k (set order i z)) all-but-one in
+      take-entries (set order i z) live full ∙ ap (λ (k : ℕ). take k (set order i z)) all-but-one in
       record {
+        size = length-set order i z ∙ s .size;
         turns = last-entry ∙ take-suc-set order i z in-range ∙ ap (λ (l : List ℕ). l ++ (z ∷ [])) all;
         free = λ k h. getD-set-other order i k z 0 (λ q. absurd (omega (arith, s .end))) ∙ s .free k (omega (arith, s .end));
       }
@@ -108,10 +111,10 @@ pub taken : (t z live : ℕ) (order : List ℕ) (i : ℕ) (after : List ℕ) →
     → TakenOut t z live order after
 unfolding last
 taken t z live order i after short (listed m inside others) s =
-    record { turns = s .turns ∙ ap (λ (l : List ℕ). l ++ (z ∷ [])) (sym others) ∙ rw m refl; free = s .free }
+    record { size = s .size; turns = s .turns ∙ ap (λ (l : List ℕ). l ++ (z ∷ [])) (sym others) ∙ rw m refl; free = s .free }
 taken t z live order i after short (absent m past) s = absurd (omega arith)
 
 -- and one that is not listed stays away
 pub untaken : (t z live : ℕ) (order : List ℕ) (i : ℕ) → entriesOf live ≤ i → Position t live order i → TakenOut t z live order order
 untaken t z live order i past (listed m inside others) = absurd (omega arith)
-untaken t z live order i past (absent m out) = record { turns = rw m refl; free = λ k h. refl }
+untaken t z live order i past (absent m out) = record { size = refl; turns = rw m refl; free = λ k h. refl }

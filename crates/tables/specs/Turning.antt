@@ -3,7 +3,7 @@ use Prim.Native.Nat.{ℕ, suc, min, _≤_, _<_}
 use mathlib.Core.Path.{_≡_}
 use mathlib.Core.List.{List, [], _∷_, _++_}
 use mathlib.Core.Bool.{true, false, cond}
-use lib.ListN.{getD, take, drop}
+use lib.ListN.{length, getD, take, drop}
 use Rattle.rules.specs.Tests.{member}
 use Rattle.rules.specs.State.{limit}
 use Rattle.rules.specs.Timeslices.{last, without}
@@ -21,6 +21,7 @@ pub data Position (t live : ℕ) (order : List ℕ) (i : ℕ) : Type 0 where
 
 -- entry i is left out, the later ones move up, and z is the last
 pub record Shifted (z live : ℕ) (order : List ℕ) (i : ℕ) (after : List ℕ) : Type 0 where
+  pub size : length after ≡ length order
   pub turns : take live after ≡ take i order ++ drop (suc i) (take live order) ++ (z ∷ [])
   pub free : (k : ℕ) → entriesOf live ≤ k → getD after k 0 ≡ getD order k 0
 
@@ -30,6 +31,7 @@ outIfListed t z order = cond (member t order) (last z (without t order)) order
 
 -- the live entries after that, and the free ones as they were
 pub record TakenOut (t z live : ℕ) (order after : List ℕ) : Type 0 where
+  pub size : length after ≡ length order
   pub turns : take live after ≡ outIfListed t z (take live order)
   pub free : (k : ℕ) → entriesOf live ≤ k → getD after k 0 ≡ getD order k 0
 

@@ -4,6 +4,7 @@ use mathlib.Core.Path.{_≡_, refl, sym, ap, _∙_, subst}
 use mathlib.Core.List.{List, [], _∷_}
 use mathlib.Core.Bool.{Bool, true, false, cond}
 use mathlib.Core.Option.{Option, none, some}
+use native.Mathlib.Omega.{arith}
 use lib.ListN.{length, set, length-set}
 use lib.Seq.{getD-set-same, getD-set-other}
 use lib.Dec.{eqb}
@@ -230,6 +231,16 @@ queue-kept at s x t h e = by (released at s)
     by : Released at s → placeAt (release at s .places) t ≡ Queue
     by (nobody f r) = rw r e
     by (joins q f r) = rw r (queued at s x q (top-some (s .slices) (λ u. at (placeAt (s .places) u)) (s .order) q f) t h e)
+
+pub top-joins : (at : Place → Bool) (s : State) → Releasable at s → (q : ℕ) → topmostAt at s ≡ some q
+    → placeAt (release at s .places) q ≡ Queue
+top-joins at s x q e = by (released at s)
+  where
+    by : Released at s → placeAt (release at s .places) q ≡ Queue
+    by (nobody f r) = let z : _≡_ {A = ℕ} 0 1 = cc in absurd (omega arith)
+    by (joins v f r) =
+        let is-q : v ≡ q = cc in
+        rw (r, ← is-q) (joined at s x v (top-some (s .slices) (λ u. at (placeAt (s .places) u)) (s .order) v f))
 
 -- who is not selected keeps its place
 pub data Moved (at : Place → Bool) (s : State) (t : ℕ) : Type 0 where

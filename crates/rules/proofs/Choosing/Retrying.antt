@@ -2,13 +2,11 @@
 use Prim.Native.Nat.{ℕ, _<_}
 use mathlib.Core.Path.{_≡_, refl, sym, ap, _∙_, subst}
 use mathlib.Core.List.{List}
-use mathlib.Core.Bool.{true, false}
+use mathlib.Core.Bool.{true}
 use mathlib.Core.Option.{Option, none, some}
 use native.Mathlib.Omega.{arith}
-use borrow.Author.Tests.{eqb-true}
 use Rattle.rules.specs.declared.Hold.the-variants.{Ready, Idle, Calling, Helping}
 use Rattle.rules.specs.declared.Place.{Place}
-use Rattle.rules.specs.declared.Place.the-variants.{Queue, Behind, On, Stalled, Spent}
 use Rattle.rules.specs.declared.Thread.{Thread}
 use Rattle.rules.specs.declared.Chain.{Chain}
 use Rattle.rules.specs.Tests.{member}
@@ -27,7 +25,7 @@ use Rattle.rules.proofs.Links.Chains.{same as unchanged}
 use Rattle.rules.proofs.Soundness.Shapes.{Sane}
 use Rattle.rules.proofs.Soundness.Standings.{Waits, blocked, idle, RunsAt, RetriesAt, donation-is, helping-is}
 use Rattle.rules.proofs.Tables.Updates.{PairUpdate, donate-update, idle-uncalled, held-live}
-use Rattle.rules.proofs.Soundness.Places.{owner, Good, Mid}
+use Rattle.rules.proofs.Soundness.Places.{on-is, owner, Good, Mid}
 use Rattle.rules.proofs.Choosing.Releases.{Releasable, release-mid, forget-release, Queued, was, joined-now, queue-after, queue-kept}
 use Rattle.rules.proofs.Choosing.Tops.{queue-top, top-queued, is-queued, topmost-release}
 use Rattle.rules.proofs.Choosing.Changes.{Change, reframed, change-releasable, OnKept, freed, stay, stay-there, avoids, ends-here}
@@ -127,15 +125,8 @@ module _ (s : State) (x : Mid s) (t : ℕ) (e : topmostAt inQueue s ≡ some t) 
       }
 
   -- a timeslice that was On n is n's own: its chain ends, Ready, there
-  on-is : (p : Place) → onThread n p ≡ true → p ≡ On n
-  on-is Queue k = clash false k refl
-  on-is (Behind q) k = clash false k refl
-  on-is (On m) k = ap On (eqb-true m n k)
-  on-is Stalled k = clash false k refl
-  on-is Spent k = clash false k refl
-
   pub own-of : (q : ℕ) → member q (s .order) ≡ true → onThread n (placeAt (s .places) q) ≡ true → owner s q ≡ n
-  own-of q listed k = by (subst (λ (p : Place). Good s q p) (on-is (placeAt (s .places) q) k) (x .placed .good q listed))
+  own-of q listed k = by (subst (λ (p : Place). Good s q p) (on-is n (placeAt (s .places) q) k) (x .placed .good q listed))
     where
       by : Waits ts (owner s q) n → owner s q ≡ n
       by (blocked p b) = let i = r .idle in let z : _≡_ {A = ℕ} 0 1 = cc in absurd (omega arith)

@@ -4,7 +4,7 @@ use mathlib.Core.Path.{_≡_, refl, ap, _∙_}
 use mathlib.Core.List.{List}
 use mathlib.Core.Bool.{true, false, not}
 use native.Mathlib.Omega.{arith}
-use borrow.Author.Tests.{not-false}
+use borrow.Author.Tests.{le-ltb, not-false}
 use Rattle.rules.specs.declared.Hold.{Hold}
 use Rattle.rules.specs.declared.Hold.the-variants.{Ready, Idle, Blocked, Calling, Helping}
 use Rattle.rules.specs.declared.Thread.{Thread}
@@ -21,27 +21,39 @@ use Rattle.rules.proofs.Basics.Views.{clash, Same, equal, different, sa
 use Rattle.rules.proofs.Links.Chains.{linkAt, Ends}
 use Rattle.rules.proofs.Links.Frames.{kept-end}
 use Rattle.rules.proofs.Soundness.Standings.{Waits}
-use Rattle.rules.proofs.Tables.Updates.{HoldUpdate, hold-update, ready-free, blocked-free}
+use Rattle.rules.proofs.Tables.Updates.{HoldUpdate, held-live, hold-update, ready-free, blocked-free}
+use Rattle.rules.proofs.Tables.Writes.{within}
 use Rattle.rules.proofs.Soundness.Places.{Settled, nothing, runs-on, Sound}
+use Rattle.rules.proofs.Choosing.Releases.{Releasable}
 use Rattle.rules.proofs.Choosing.Changes.{Change, reframed, change-releasable, OnKept, freed, stay, stay-there, avoids, ends-here}
 use Rattle.rules.proofs.Events.Hands.{Handed}
 use Rattle.rules.proofs.Basics.Accepting.{passes}
 use Rattle.rules.proofs.Events.Joining.{releases-handed}
 
-blocked-is : (h : Hold) → isBlocked h ≡ true → h ≡ Blocked
+pub blocked-is : (h : Hold) → isBlocked h ≡ true → h ≡ Blocked
 blocked-is Ready e = clash false e refl
 blocked-is Idle e = clash false e refl
 blocked-is Blocked e = refl
 blocked-is (Calling s) e = clash false e refl
 blocked-is (Helping s) e = clash false e refl
 
-module _ (s : State) (x : Sound s) (n : ℕ) (live : liveAt (s .threads) n ≡ true) (was-blocked : holdAt (s .threads) n ≡ Blocked) where
+module _ (s : State) (x : Sound s) (n : ℕ) (was-blocked : holdAt (s .threads) n ≡ Blocked) where
   abbrev ts′ : List Thread
   ts′ = setHold n Ready (s .threads)
 
-  woken : HoldUpdate (s .threads) ts′ n Ready
+  -- a Blocked thread is live, so it is within the table
+  blocked-live : liveAt (s .threads) n ≡ true
+  blocked-live = held-live (s .threads) n (x .mid .shape .sane) (λ r. let z : _≡_ {A = ℕ} 0 1 = cc in omega arith)
+
+  -- so a wake of it is accepted
+  pub wake-accepted : refusal (Wake n) (forget s) ≡ 0
+  wake-accepted =
+      let small = within (s .threads) n blocked-live in
+      rw (le-ltb 127 n (omega (arith, x .mid .shape .sane .full)), blocked-live, was-blocked) refl
+
+  pub woken : HoldUpdate (s .threads) (setHold n Ready (s .threads)) n Ready
   woken =
-      hold-update (s .threads) n Ready (x .mid .shape .sane) live (rw was-blocked blocked-free) ready-free
+      hold-update (s .threads) n Ready (x .mid .shape .sane) blocked-live (rw was-blocked blocked-free) ready-free
       (λ k q. let z : _≡_ {A = ℕ} 0 1 = cc in absurd (omega arith))
 
   here : Ends (linkAt (s .threads)) n noLinks n noLinks
@@ -62,6 +74,9 @@ module _ (s : State) (x : Sound s) (n : ℕ) (live : liveAt (s .threads) n ≡ t
       by y m w (equal e f) = freed f
       by y m w (different o f) = stay-there (reframed (x .mid) (woken .update)) w (woken .others m o) (avoids (s .threads) here o)
 
+  pub wake-releasable : Releasable (onThread n) (withThreads (setHold n Ready (s .threads)) s)
+  wake-releasable = change-releasable change
+
   -- what ran still runs: its chain ended, Ready, elsewhere
   settled : Settled s → Settled (withThreads ts′ s)
   settled (nothing q f) = nothing q f
@@ -76,13 +91,17 @@ module _ (s : State) (x : Sound s) (n : ℕ) (live : liveAt (s .threads) n ≡ t
         counted = r .counted;
       })
 
-pub wake-handed : (s : State) → Sound s → (n : ℕ) → refusal (Wake n) (forget s) ≡ 0 → Handed s (wake n s) (update (Wake n) (forget s))
-unfolding wake
-wake-handed s x n e =
+-- only a Blocked thread is woken
+pub accepted-blocked : (s : State) (n : ℕ) → refusal (Wake n) (forget s) ≡ 0 → holdAt (s .threads) n ≡ Blocked
+accepted-blocked s n e =
     let a = passes (aboveLimit n) 1 _ e in
     let b = passes (not (liveAt (s .threads) n)) 3 _ (a .1) in
     let c = passes (not (isBlocked (holdAt (s .threads) n))) 8 0 (b .1) in
-    let live = not-false (liveAt (s .threads) n) (b .0) in
-    let was-blocked = blocked-is (holdAt (s .threads) n) (not-false (isBlocked (holdAt (s .threads) n)) (c .0)) in
-    releases-handed s n (withThreads (setHold n Ready (s .threads)) s) (change-releasable (change s x n live was-blocked))
-    (settled s x n live was-blocked (x .settled)) (woken s x n live was-blocked .update .count) refl
+    blocked-is (holdAt (s .threads) n) (not-false (isBlocked (holdAt (s .threads) n)) (c .0))
+
+pub wake-handed : (s : State) → Sound s → (n : ℕ) → refusal (Wake n) (forget s) ≡ 0 → Handed s (wake n s) (update (Wake n) (forget s))
+unfolding wake
+wake-handed s x n e =
+    let was-blocked = accepted-blocked s n e in
+    releases-handed s n (withThreads (setHold n Ready (s .threads)) s) (wake-releasable s x n was-blocked)
+    (settled s x n was-blocked (x .settled)) (woken s x n was-blocked .update .count) refl

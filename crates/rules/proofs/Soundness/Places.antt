@@ -16,7 +16,7 @@ use Rattle.rules.specs.Tests.{member, all, below}
 use Rattle.rules.specs.State.{State, forget, limit, freePlace, ownerAt, leftAt, placeAt, liveAt}
 use Rattle.rules.specs.Order.{standsAbove}
 use Rattle.rules.specs.Walk.{chainOf, verdict}
-use Rattle.rules.specs.Release.{isSpent, inQueue, behind, topmostAt}
+use Rattle.rules.specs.Release.{isSpent, inQueue, behind, onThread, topmostAt}
 use Rattle.rules.specs.Sound.{shaped, placed, settled, settledOn, placeGood, spentGood, waitsAt, isStalls}
 use Rattle.rules.specs.Sound.{runsAs, sound}
 use Rattle.rules.proofs.Basics.Views.{Two, yes-true, no-false, two, clash, and-true-left, and-true-right, and-true-both, and4}
@@ -87,6 +87,14 @@ behind-is q (Behind r) e = ap Behind (eqb-true r q e)
 behind-is q (On n) e = clash false e refl
 behind-is q Stalled e = clash false e refl
 behind-is q Spent e = clash false e refl
+
+-- and of those On a thread
+pub on-is : (n : ℕ) (p : Place) → onThread n p ≡ true → p ≡ On n
+on-is n Queue e = clash false e refl
+on-is n (Behind q) e = clash false e refl
+on-is n (On m) e = ap On (eqb-true m n e)
+on-is n Stalled e = clash false e refl
+on-is n Spent e = clash false e refl
 
 -- On: what the test says is what the links say
 waits-of : (s : State) (t n : ℕ) → Standing (s .threads) (owner s t)

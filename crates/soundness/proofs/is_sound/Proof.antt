@@ -26,7 +26,7 @@ returns c =
       counts .before .count-live .ensures,
     ) at (c .both6 .ensures) in
     tests ∙ whole (start .args .threads) (start .args .timeslices) (start .args .order) _ _ _ (start .good .0 .1 .0 .1)
-    (start .good .1 .0 .1 .0 .1)
+    (start .good .1 .0 .1 .0 .1) (start .good .1 .1 .0 .1 .0 .1)
 
 pub is-sound-spec : {M : Type 1} → statement M
 is-sound-spec =

@@ -1,5 +1,4 @@
 -- Each look runs its timeslice or hands a machine to the next look, with which the rest of the choice is the whole.
-use Prim.Native.Nat.{_-_}
 use Prim.Native.Nat.{ℕ, _+_}
 use mathlib.Core.Path.{_≡_, refl, ap, _∙_}
 use mathlib.Core.Logic.{⊎-elim}
@@ -103,8 +102,7 @@ loop-holds c =
     let owns = start .good .0 .1 .1 in
     let m = start .args .t1 in
     let codes = coded-by (m .timeslices) (m .order) (m .«live_timeslices») _ _ _ _ refl refl (c .fill .ensures .0) (c .fill .ensures .1) in
-    begin _ _ _ _ _ (start .pre) (simp length-map at (owns .1 .1 .0 .1 .0 .1)) (simp length-map at (owns .0 .1 .0 .1))
-    (simp length-map at (owns .1 .0 .1 .0 .1))
+    begin _ _ _ _ _ (start .pre) (simp length-map at (owns .0 .1 .0 .1)) (simp length-map at (owns .1 .0 .1 .0 .1))
     (ap (λ (k : ℕ). k + 2) (filled .before .before .before .index .ensures)) codes
 
 sub-looks : tie.Need-sub-looks Inv-loop μ-loop

@@ -1,18 +1,16 @@
 -- Each refusal is the first that fits; past them the turn order lacks the timeslice, so it has room for it.
 use Prim.Native.Nat.{_<_}
-use mathlib.Core.Path.{_≡_, refl, sym, _∙_}
+use mathlib.Core.Path.{refl, sym, _∙_}
 use native.Mathlib.Omega.{arith}
 use borrow.Author.Tests.{lt-ltb, le-ltb, eq-eqb, ne-eqb, not-true, not-false}
-use lib.ListN.{length, length-map}
 use lib.Seq.{length-take-le}
 use Rattle.rules.specs.declared.Thread.{Thread}
 use Rattle.dispatcher.specs.Shown.{shown}
 use Rattle.rules.specs.declared.Event.the-variants.{Give}
 use Rattle.rules.specs.State.{forget}
 use Rattle.rules.specs.Events.{give}
-use Rattle.dispatcher.proofs.Stored.{sound-stored, sound-shown}
+use Rattle.dispatcher.proofs.Stored.{sound-stored, sound-shown, turns-full, turns-fit}
 use Rattle.dispatcher.proofs.Answering.{refuse, accept}
-use Rattle.dispatcher.proofs.Stored.{turns-fit}
 use Rattle.rules.proofs.Soundness.Places.{sound-of}
 use Rattle.rules.proofs.Bounds.{turns-room}
 use Rattle.dispatcher.proofs.TimesliceChanges.{gift, gift-shown, gift-exact, joined-to}
@@ -27,12 +25,11 @@ roomy c =
     let at-if1 = c .before .before .before .before in
     let start = at-if1 .before in
     let m = start .args .t1 in
-    let fits = turns-fit m (sound-stored m (start .pre)) in
-    let full : length (m .order) ≡ 128 = simp length-map at (start .good .0 .1 .1 .1 .1 .0 .1 .0 .1) in
+    let ok = sound-stored m (start .pre) in
     let shape = sound-of (shown m) (sound-shown m (start .pre)) .mid .shape in
     let few = turns-room (forget (shown m)) shape (start .args .t) (omega (arith, at-if1 .if1 .left))
     (sym (c .before .member .ensures) ∙ c .if3 .left) in
-    omega (arith, few, length-take-le (m .«live_timeslices») (m .order) (omega arith))
+    omega (arith, few, length-take-le (m .«live_timeslices») (m .order) (omega (arith, turns-fit m ok, turns-full m ok)))
 
 returns : tie.Need-returns
 returns c = refuse _ _ (c .answered .ensures) (rw (lt-ltb _ _ (c .before .if1 .taken)) refl)
@@ -155,7 +152,6 @@ returns-7 c =
     let start = at-if1 .before in
     let a = start .args in
     let m = a .t1 in
-    let full : length (m .order) ≡ 128 = simp length-map at (start .good .0 .1 .1 .1 .1 .0 .1 .0 .1) in
     let live = read (λ (t : Thread). t .live) (m .threads) _ _ _ (at-index .index .ensures) (not-false _ (at-if4 .if4 .left)) in
     accept (Give (a .t) (a .n) (a .priority) (a .quantum)) m (start .pre)
     (rw (
@@ -172,7 +168,7 @@ returns-7 c =
     (joined-to (a .t) (gift m (at-index2 .index2 .result) (c .before .index3 .result) (a .t) (a .n) (a .priority) (a .quantum)
     (at-index2 .index2 .ensures) (c .before .index3 .ensures) (roomy at-if3)) _ _
     (gift-shown m (at-index2 .index2 .result) (c .before .index3 .result) (a .t) (a .n) (a .priority) (a .quantum)
-    (at-index2 .index2 .ensures) (c .before .index3 .ensures) (roomy at-if3) full) (c .overtaken .ensures))
+    (at-index2 .index2 .ensures) (c .before .index3 .ensures) (roomy at-if3) (sound-stored m (start .pre))) (c .overtaken .ensures))
 
 pub dispatch-give-spec : {M : Type 1} → statement M
 dispatch-give-spec =

@@ -1,7 +1,5 @@
 -- One entry of the turn order less is live, and the followers are released.
-use mathlib.Core.Path.{_≡_}
 use native.Mathlib.Omega.{arith}
-use lib.ListN.{length, length-map}
 use Rattle.dispatcher.proofs.TimesliceChanges.{some-live, fewer-exact, struck-shown}
 use Rattle.dispatcher.proofs.Machine.struck_out.Statement.{statement}
 use Rattle.dispatcher.proofs.Machine.struck_out.Tie as tie
@@ -15,9 +13,7 @@ element-set-from-slot c = omega (arith, c .index .ensures, c .before .pre .1 .0)
 sub-fewer : tie.Need-sub-fewer
 sub-fewer c =
     let start = c .before .before .before .before in
-    let m = start .args .t1 in
-    let full : length (m .order) ≡ 128 = simp length-map at (start .good .0 .1 .1 .1 .1 .0 .1 .0 .1) in
-    some-live m (start .args .t) (start .pre .0 .exact) full (start .pre .1 .1)
+    some-live (start .args .t1) (start .args .t) (start .pre .0 .exact) (start .pre .1 .1)
 
 returns : tie.Need-returns
 returns c =
@@ -26,13 +22,12 @@ returns c =
     let start = at-index .before in
     let m = start .args .t1 in
     let t = start .args .t in
-    let full : length (m .order) ≡ 128 = simp length-map at (start .good .0 .1 .1 .1 .1 .0 .1 .0 .1) in
     let ok = start .pre .0 .exact in
     let listed = start .pre .1 .1 in
     let out = at-strike-out .strike-out .ensures in
     record {
-      state = struck-shown m t ok full listed _ out _ (at-index .index .ensures) _ (c .release .ensures);
-      exact = fewer-exact m t ok full listed _ out _;
+      state = struck-shown m t ok listed _ out _ (at-index .index .ensures) _ (c .release .ensures);
+      exact = fewer-exact m t ok listed _ out _;
     }
 
 pub struck-out-spec : {M : Type 1} → statement M
