@@ -1,12 +1,12 @@
 #!/usr/bin/env bash
 # wakes.sh KEY_PROGRAM [SEED] [COUNT]
 #
-# Request [14]. Makes event files, and from them pairs of event files that differ in one thing: two to four wakes of different Blocked
-# threads, one after the other, stand in two orders. KEY_PROGRAM's keys of a pair must be equal byte for byte before the wakes and after
-# them; every wake is accepted, and leaves what runs alone and follows no link, or makes the woken thread run; the line of the last wake is
-# the same but for its links. Each key must also be that of oracle/key.rs, byte for byte; and after the wakes that program's own machines
-# must be the same, places included. COUNT is the number of lively files; the other kinds go with it. The same seed gives the same files.
-# Each run of the program has 10 seconds.
+# Request [14]. Makes event files, and from them pairs of event files that differ in one thing: two wakes or more, one after the other, of
+# Blocked threads and in some pairs of others too, or of one twice, stand in two orders. KEY_PROGRAM's keys of a pair must be equal byte for
+# byte before the wakes and after them; every wake leaves what runs alone and follows no link, or makes the woken thread run; wakes of the
+# same threads are accepted, of each thread the first; the running thread, timeslice and count after the last wake are the same. Each key
+# must also be that of oracle/key.rs, byte for byte; and after the wakes that program's own machines must be the same, places included.
+# COUNT is the number of lively files; the other kinds go with it. The same seed gives the same files. Each run has 10 seconds.
 # Every case that oracle/wakes.rs names must occur in the pairs; with a COUNT below the default that is only said.
 #
 # Exit status: 0 all equal, 1 a difference or something that never occurs, 2 wrong use or no time left (WAKES_SECONDS, default 120).

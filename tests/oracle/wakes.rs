@@ -1,7 +1,8 @@
-//! Request [14]: pairs of event files that wake the same Blocked threads in two orders.
+//! Request [14]: pairs of event files that wake the same threads in two orders.
 //!
-//! A pair is NAME+AT+WAKES.one and NAME+AT+WAKES.other: the first AT events of the event file NAME, then so many wakes of different
-//! Blocked threads, then the other events of NAME, or as many of them as a file has room for.
+//! A pair is NAME+AT+WAKES.one and NAME+AT+WAKES.other: the first AT events of the event file NAME, then so many wakes, of two or more
+//! Blocked threads and in some pairs of others too, or of one twice, then the other events of NAME, or as many of them as a file has
+//! room for.
 //!
 //! `wakes -n SEED FOLDER FILE...` makes pairs in FOLDER. The same arguments give the same pairs.
 //! `wakes -p PAIRS KEYS`: two folders, of pairs and of their keys under the same names. Asks of the keys, and of nothing else, what the
@@ -97,7 +98,8 @@ fn places(events: &[&[u8]]) -> [Vec<usize>; 5] {
     places
 }
 
-/// Two orders of two to four Blocked threads. Mostly those come first that a timeslice is On: waking the others changes little.
+/// Two orders of two to four Blocked threads, in every third pair with a wake more: of one of them again, or of a thread that is not
+/// Blocked. Mostly those are taken that a timeslice is On: waking the others changes little.
 fn orders(m: &Machine, random: &mut Random) -> [Vec<u8>; 2] {
     let mut one = blocked(m);
     random.shuffle(&mut one);
@@ -105,6 +107,12 @@ fn orders(m: &Machine, random: &mut Random) -> [Vec<u8>; 2] {
         one.sort_by_key(|t| m.placed(on(*t)).is_empty());
     }
     one.truncate([2, 2, 3, 3, 4][random.below(5)]);
+    let other = random.below(140) as u8;
+    match random.below(6) {
+        0 => one.push(one[random.below(one.len())]),
+        1 if !blocked(m).contains(&other) => one.push(other),
+        _ => (),
+    }
     random.shuffle(&mut one);
     let mut other = one.clone();
     while other == one {
@@ -159,6 +167,7 @@ struct Wake {
     thread: u8,
     before: Machine,
     after: Machine,
+    refusal: u8,
     links: u32,
 }
 
@@ -175,9 +184,13 @@ impl Pair {
         let (first, last) = (numbers[0], numbers[0] + numbers[1]);
         let pair = Pair { name: name.to_string(), first, last, files: Pair::both(folder, name)? };
         let [one, other] = pair.events();
-        let [wakes, others] = [&one, &other].map(|events| events[first..last].iter().copied().collect::<BTreeSet<_>>());
+        let [wakes, others] = [&one, &other].map(|events| {
+            let mut wakes = events[first..last].to_vec();
+            wakes.sort();
+            wakes
+        });
         assert!(first > 0 && last <= one.len() && one[..first] == other[..first] && one[last..] == other[last..], "{name}: no pair");
-        assert!(wakes == others && wakes.len() == last - first && wakes.iter().all(|event| event[1] == 6), "{name}: other wakes");
+        assert!(wakes == others && wakes.iter().all(|event| event[1] == 6), "{name}: other wakes");
         assert!(one[first..last] != other[first..last], "{name}: the same order");
         Ok(pair)
     }
@@ -193,7 +206,7 @@ impl Pair {
             let wake = |event: &&[u8]| {
                 let before = m.clone();
                 let (answer, _) = m.next(event).unwrap();
-                Wake { thread: event[2], before, after: m.clone(), links: answer.links }
+                Wake { thread: event[2], before, after: m.clone(), refusal: answer.refusal, links: answer.links }
             };
             events[self.first..self.last].iter().map(wake).collect()
         })
@@ -228,10 +241,10 @@ fn line(text: &str) -> Option<Line<'_>> {
 /// What is wrong with the line of a wake, by the line before it.
 fn wrong_wake(thread: u8, before: &str, text: &str) -> Option<&'static str> {
     let (Some(was), Some(is)) = (line(before), line(text)) else { return Some("is no line of a key") };
-    if !is.accepted {
-        Some("refuses it")
-    } else if is.runs == was.runs {
+    if is.runs == was.runs {
         (is.links > 0).then_some("leaves what runs alone and follows links")
+    } else if !is.accepted {
+        Some("refuses it and changes what runs")
     } else if is.runs[0] != thread.to_string() {
         Some("changes what runs, and the woken thread does not run")
     } else if is.runs[1] == was.runs[1] {
@@ -264,11 +277,31 @@ fn wrong_keys(pair: &Pair, keys: &[Vec<u8>; 2]) -> Option<String> {
         })
     };
     let wakes = || all.iter().zip([&one, &other]).find_map(wake);
-    let last = || {
-        let [a, b] = [one[pair.last - 1], other[pair.last - 1]].map(|text| text.rsplit_once(' ').map(|(runs, _)| runs));
-        (a != b).then(|| differs(pair.last - 1..pair.last, "after the last wake, and not only its links")).flatten()
+    // Of a thread the first wake may be accepted, and no other; of which threads, does not depend on the order.
+    let accepts = |(events, lines): (&Vec<&[u8]>, &Vec<&str>)| {
+        let mut woken = Vec::new();
+        for n in pair.first..pair.last {
+            let again = events[pair.first..n].contains(&events[n]);
+            match line(lines[n]).is_some_and(|line| line.accepted) {
+                true if again => return Err(format!("line {} accepts a second wake: '{}'", n + 1, lines[n])),
+                true => woken.push(events[n][2]),
+                false => (),
+            }
+        }
+        woken.sort();
+        Ok(woken)
     };
-    differs(0..pair.first, "before the wakes").or_else(wakes).or_else(last).or_else(|| differs(pair.last..many, "after the wakes"))
+    let accepted = || match [accepts((&all[0], &one)), accepts((&all[1], &other))] {
+        [Ok(one), Ok(other)] if one == other && one.len() >= 2 => None,
+        [Ok(one), Ok(other)] => Some(format!("wakes of {one:?} are accepted in the one order, of {other:?} in the other")),
+        [Err(wrong), _] | [_, Err(wrong)] => Some(wrong),
+    };
+    let last = || {
+        let [a, b] = [one[pair.last - 1], other[pair.last - 1]].map(|text| line(text).map(|line| line.runs));
+        (a != b).then(|| differs(pair.last - 1..pair.last, "of the last wake, in what runs")).flatten()
+    };
+    let rest = || differs(pair.last..many, "after the wakes");
+    differs(0..pair.first, "before the wakes").or_else(wakes).or_else(accepted).or_else(last).or_else(rest)
 }
 
 /// The topmost of the timeslices in one of the places: the earliest of those with the highest priority.
@@ -288,12 +321,21 @@ fn owner(m: &Machine, timeslice: u8) -> u8 {
     (0..128).find(|t| m.owned(*t).is_some_and(|(s, _)| s == timeslice)).unwrap()
 }
 
-/// What is wrong with a wake: what runs stays and no link is followed, or the woken thread runs, paid by the topmost of the timeslices
-/// that were On it, and the links followed are those of that one's chain.
+fn accepted(wake: &Wake) -> bool {
+    wake.refusal == 0
+}
+
+/// What is wrong with a wake: of a thread that is not Blocked it is refused; otherwise what runs stays and no link is followed, or the
+/// woken thread runs, paid by the topmost of the timeslices that were On it, and the links followed are those of that one's chain.
 fn wrong_change(wake: &Wake) -> Option<String> {
     let (before, after) = (&wake.before, &wake.after);
+    let sleeps = blocked(before).contains(&wake.thread);
+    if sleeps != accepted(wake) {
+        return Some(format!("a wake of {}, Blocked: {sleeps}, gets {}", wake.thread, wake.refusal));
+    }
     let is = (after.running, after.current, wake.links);
-    let wanted = match topmost(before, on(wake.thread)) {
+    let top = if sleeps { topmost(before, on(wake.thread)) } else { None };
+    let wanted = match top {
         Some(top) if before.running == NONE || above(before, top, before.current) => {
             (wake.thread, top, before.walk(owner(before, top) as usize).links)
         }
@@ -336,7 +378,7 @@ fn wrong_machines(pair: &Pair) -> Option<String> {
 }
 
 /// What must occur in a pair.
-const CASES: [&str; 19] = [
+const CASES: [&str; 21] = [
     "the sums of links differ",
     "the sums of links are equal, though a wake takes over",
     "a line between two wakes differs",
@@ -353,7 +395,9 @@ const CASES: [&str; 19] = [
     "a thread is woken that ends the chain of a timeslice in Queue or Behind another",
     "a server is woken with two timeslices or more On it",
     "two threads are woken with two timeslices or more On each",
-    "there are three wakes or more",
+    "three threads or more are woken",
+    "a thread is woken twice",
+    "a thread that is not Blocked is to be woken",
     "events after the wakes follow links",
     "a timeslice that the wakes put Behind another pays later",
 ];
@@ -362,7 +406,8 @@ const CASES: [&str; 19] = [
 fn occur(pair: &Pair) -> [bool; CASES.len()] {
     let wakes = pair.wakes();
     let waiting = |wake: &Wake| wake.before.placed(on(wake.thread)).len();
-    let any = |holds: &dyn Fn(&Wake) -> bool| wakes.iter().flatten().any(holds);
+    let woken = |wakes: &Vec<Wake>| wakes.iter().filter(|wake| accepted(wake)).count();
+    let any = |holds: &dyn Fn(&Wake) -> bool| wakes.iter().flatten().filter(|wake| accepted(wake)).any(holds);
     let equal = |wake: &Wake| {
         let priority = |s: u8| wake.before.rated(s).map(|(priority, _)| priority);
         let top = topmost(&wake.before, on(wake.thread));
@@ -405,8 +450,10 @@ fn occur(pair: &Pair) -> [bool; CASES.len()] {
         any(&|wake| waiting(wake) == 0),
         any(&leads),
         any(&|wake| waiting(wake) >= 2 && wake.before.threads[wake.thread as usize].role == SERVER),
-        wakes[0].iter().filter(|wake| waiting(wake) >= 2).count() >= 2,
-        wakes[0].len() >= 3,
+        wakes[0].iter().filter(|wake| accepted(wake) && waiting(wake) >= 2).count() >= 2,
+        woken(&wakes[0]) >= 3,
+        wakes[0].iter().any(|wake| !accepted(wake) && wakes[0].iter().any(|first| accepted(first) && first.thread == wake.thread)),
+        wakes[0].iter().any(|wake| !accepted(wake) && wakes[0].iter().all(|first| !accepted(first) || first.thread != wake.thread)),
         links > 0,
         pays,
     ]
