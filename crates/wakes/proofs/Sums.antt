@@ -190,7 +190,7 @@ module _ (s : State) (h : sound s ≡ true) (a b : ℕ) (n : a ≡ b → ⊥) (p
       by (yes-true k) = taken (topmostAt (onThread b) s) refl k
       by (no-false k) = ap (overtakesAs s (topmostAt (onThread a) s)) (quiet-running s h b q k) ∙ alone
 
-  -- If there is one after either alone, then the upper timeslice's links are followed either way, the lower one's only if it comes first.
+  -- If there is one after each alone, the upper timeslice's links are followed either way, the lower one's only if it comes first.
   pub sums-apart : (t u : ℕ) → topmostAt (onThread a) s ≡ some t → topmostAt (onThread b) s ≡ some u
       → wake a s .chooses ≡ true → wake b s .chooses ≡ true → standsAbove (s .slices) (s .order) t u ≡ true
       → (linksOfBoth a b s ≡ chainOf (s .threads) (s .slices) t .links)
