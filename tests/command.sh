@@ -24,7 +24,7 @@ for tool in bash env dirname readlink cat mktemp rm; do ln -s "$(command -v $too
 # The programs that rt "builds" are in $work/built; while $work/slow is there, proving does not end.
 originals() {
     cp "$program" "$work/built/key"
-    cp "$(dirname "$program")"/{list_to_file,plain_key,reason,file_to_list} "$work/built"
+    cp "$(dirname "$program")"/{list_to_file,plain_key,reason,file_to_list,shares} "$work/built"
 }
 originals
 cat >"$work/bin/rt" <<END
@@ -93,7 +93,7 @@ run "a full device" 1 bash -c 'key "a file" >/dev/full'
 run "a closed standard output" 1 bash -c 'key "a file" >&-'
 run "wrong use" 2 key --none
 run "wrong use with --both" 2 key --both --none
-for name in plain_key reason file_to_list; do
+for name in plain_key reason file_to_list shares; do
     [ ! -e "$repository/target/bin/$name" ] || wrong "$name is built although nobody asked for it"
 done
 run "help without rt" 0 env PATH="$work/few" "$repository/key" --help
@@ -151,8 +151,12 @@ prints_lines "a file" "file 19" samples/k1 "${why[@]}"; says_nothing
 run "a reason, a missing file among others" 1 key --why 8 none samples/k1; prints_lines samples/k1 "${why[@]}"
 says_only "key: none: no such file"
 # README's example: the command, and indented below it what it prints.
-mapfile -t example < <(awk '/^    \.\/key --why / { on = 1 } /^[^ ]/ { on = 0 } on && NF { sub(/^ */, ""); print }' "$here/../README.md")
-run "README's example of a reason" 0 env -C "$repository" bash -c "${example[0]-false}"; prints_lines "${example[@]:1}"
+readme() { # OPTION
+    mapfile -t example < <(awk -v line="^    [.]/key $1 " '
+        $0 ~ line { on = 1 } /^[^ ]/ { on = 0 } on && NF { sub(/^ */, ""); print }' "$here/../README.md")
+    run "README's example of $1" 0 env -C "$repository" bash -c "${example[0]-false}"; prints_lines "${example[@]:1}"
+}
+readme --why
 run "a reason, samples" 0 key --why 1
 [ "$(grep -A 1 '^samples/' "$work/out" | grep -c '^1 create ')" -eq "$(ls "$repository/samples" | wc -l)" ] || wrong "not every sample"
 { printf '\0\0\377\374\1\2\3\0'; printf '\1\4%.0s' {1..32764}; } >longest
@@ -194,6 +198,39 @@ done
 echo >>"$repository/target/bin/reason"
 run "a changed reason, not asked for" 0 key "a file"; prints "$work/k1.key"; says_nothing
 
+# The shares. Of the bridge, here samples/k1, one charge is accepted.
+shares=("0 30 1000 0")
+rm -rf "$repository/target"
+run "shares, an event file, first use" 0 key --shares samples/k1; prints_lines "${shares[@]}"
+[ ! -e "$repository/target/bin/key" ] || wrong "key is built although nobody asked for it"
+run "shares, unchanged" 0 key samples/k1 --shares; prints_lines "${shares[@]}"; says_nothing
+run "shares, a list in words" 0 key --shares "$repository/samples/bridge.txt"; prints_lines "${shares[@]}"; says_nothing
+run "shares, standard input" 0 key --shares - <samples/k1; prints_lines "${shares[@]}"; says_nothing
+run "shares, twice asked for" 0 key --shares --shares samples/k1; prints_lines "${shares[@]}"; says_nothing
+readme --shares
+run "shares, several files, one without a charge" 0 key --shares "loose list" samples/k1
+prints_lines "loose list" samples/k1 "${shares[@]}"; says_nothing
+run "shares, no charge" 0 key --shares "loose list"; prints /dev/null; says_nothing
+run "shares, samples" 0 key --shares
+[ "$(grep -A 1 '^samples/' "$work/out" | grep -c '^[0-9]* [0-9]* [0-9]* [0-9]*$')" -eq "$(ls "$repository/samples" | wc -l)" ] ||
+    wrong "not every sample"
+for file in "too long" "far too long" /dev/null; do
+    run "shares, $file" 0 key --shares "$file"; prints_lines "file 14"; says_nothing
+done
+run "shares, a damaged file" 0 key --shares "role 2"; prints_lines "file 16"; says_nothing
+run "shares, a list that cannot be read" 1 key --shares "wrong list"; prints /dev/null; says_only "key: wrong list: line 3: no such event"
+run "shares, a missing file among others" 1 key --shares none samples/k1; prints_lines samples/k1 "${shares[@]}"
+says_only "key: none: no such file"
+run "shares, a full device" 1 bash -c 'key --shares samples/k1 >/dev/full'; says "a write failed"
+run "no --shares behind --" 1 key -- --shares; says_only "key: --shares: no such file"
+misused "--both and --shares do not go together" --both --shares samples/k1
+misused "--why and --shares do not go together" --shares --why 8 samples/k1
+misused "no option --shares=1" --shares=1 samples/k1
+printf '#!/bin/sh\necho 0\n' >"$repository/target/bin/shares"
+run "shares, the program changed" 0 key --shares samples/k1; prints_lines "${shares[@]}"; says "building it again"
+echo >>"$repository/target/bin/shares"
+run "a changed shares, not asked for" 0 key "a file"; prints "$work/k1.key"
+
 # Instead of NAME a program that runs it, with more behind that.
 replace() { # NAME MORE
     originals
@@ -229,6 +266,10 @@ for name in reason file_to_list; do
     replace $name '; kill -SEGV $$'
     run "a $name that crashes after printing" 1 key --why 8 samples/k1; prints /dev/null; says "the program $name ended with: .*status 139"
 done
+replace shares '; echo "cannot be written" >&2'
+run "a shares that says something" 1 key --shares samples/k1; says "^key: samples/k1: the program shares ended with: cannot be written$"
+replace shares '; kill -SEGV $$'
+run "a shares that crashes after printing" 1 key --shares samples/k1; says "the program shares ended with: .*status 139"
 originals
 rm -rf "$repository/target"
 
@@ -257,7 +298,7 @@ run "after an interruption" 0 key "a file"; prints "$work/k1.key"
 
 # ./check: rt ci says the words given and ends with the status given; the outside tests end as told.
 ci() { printf '%s\n' "$2" >"$work/ci"; echo "$1" >"$work/ci.status"; } # STATUS WORDS
-names="sequences compare wakes reasons words documents sentences command"
+names="sequences compare wakes reasons shares words documents sentences command"
 tests() { # [NAME of the one that fails]
     local one
     for one in $names; do echo 'echo "given: $*"' >"$repository/tests/$one.sh"; done
@@ -271,6 +312,7 @@ run "check" 0 check; ends_in '^7 passed, 0 failed$'; [ "$(grep -c passed "$work/
 run "check, then key" 0 key "a file"; says_nothing
 run "check, then key --both" 0 key --both "a file"; says_only "key: a file: both engines agree"
 run "check, then key --why" 0 key --why 8 samples/k1; says_nothing
+run "check, then key --shares" 0 key --shares samples/k1; says_nothing
 run "check, its tests and what they are given" 0 check 5 6
 {
     echo "rt: ok"
@@ -299,7 +341,7 @@ run "check without a tally" 1 check; ends_not_in '0 failed$'
 ci 0 "0 passed, 0 failed"
 run "check with nothing passed" 1 check; ends_not_in '0 failed$'
 ci 0 "7 passed, 0 failed"
-for name in key list_to_file plain_key reason file_to_list; do
+for name in key list_to_file plain_key reason file_to_list shares; do
     originals
     rm "$work/built/$name" "$repository/target/bin/$name"
     run "check with $name missing" 1 check; ends_in "left no target/bin/$name\$"

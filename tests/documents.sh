@@ -3,7 +3,8 @@
 #
 # What the documents show is what KEY_PROGRAM prints: README's worked example is the key of samples/bridge, the examples in docs/FORMAT.md
 # print the keys below them, samples/k1 is K1, and each table in sequences/NAME.md has the events of NAME.events and the lines of NAME.key.
-# Under its headings 'Reason after event N' stand, between backticks and in order, the lines of NAME.reason, but for those too long to show.
+# Under its headings 'Reason after event N' stand, between backticks and in order, the lines of NAME.reason, but for those too long to show;
+# under its heading 'Shares' likewise all lines of NAME.shares, none if it is empty.
 set -euo pipefail
 export LC_ALL=C
 [ $# -eq 1 ] || { echo "documents.sh KEY_PROGRAM" >&2; exit 2; }
@@ -100,8 +101,15 @@ written_out() { # TABLE EVENTS KEY
         }
         END { if (!rows) fault("no table"); exit bad }' "$1"
 }
+
+# Of a page, what stands between backticks under the headings that begin with TITLE, a line each, and first the heading, WORD for TITLE.
+quoted() { # TITLE WORD
+    awk -v title="^## $1" -v word="$2" '
+        /^#/ { inside = sub(title, word); if (inside) print; next }
+        inside { while (match($0, /`[^`]*`/)) { print substr($0, RSTART + 1, RLENGTH - 2); $0 = substr($0, RSTART + RLENGTH) } }'
+}
 shopt -s nullglob
-tables=(tests/sequences/*.md) blocks=0
+tables=(tests/sequences/*.md) blocks=0 sheets=0
 for table in "${tables[@]}"; do
     name=${table%.md}
     if ! [ -f "$name.events" ] || ! [ -f "$name.key" ]; then
@@ -114,14 +122,20 @@ for table in "${tables[@]}"; do
         same "$table, events" "$name.events" "$work/events" "$work/list"
         same "$table, key" "$name.key" "$work/key" "$name.key"
     fi
-    awk '
-        /^#/ { inside = sub(/^## Reason after event /, "after "); if (inside) print; next }
-        inside { while (match($0, /`[^`]*`/)) { print substr($0, RSTART + 1, RLENGTH - 2); $0 = substr($0, RSTART + RLENGTH) } }
-    ' "$table" >"$work/shown"
+    quoted 'Reason after event ' 'after ' <"$table" >"$work/shown"
     if [ -f "$name.reason" ] || [ -s "$work/shown" ]; then
         awk 'length <= 100' "$name.reason" >"$work/reason" || true
         same "$table, reasons" "$name.reason" "$work/shown" "$work/reason"
         blocks=$((blocks + $(grep -c '^after ' "$work/shown" || true)))
+    fi
+    quoted 'Shares' 'shares' <"$table" >"$work/shown"
+    if [ -f "$name.shares" ]; then
+        { echo shares; cat "$name.shares"; } >"$work/shares"
+        same "$table, shares" "$name.shares" "$work/shown" "$work/shares"
+        sheets=$((sheets + 1))
+    elif [ -s "$work/shown" ]; then
+        echo "$table: it has shares, and there is no $name.shares"
+        bad=$((bad + 1))
     fi
 done
 for list in tests/sequences/*.events; do
@@ -131,5 +145,5 @@ if [ ${#tables[@]} -eq 0 ]; then
     echo "there is no table in tests/sequences"
     bad=$((bad + 1))
 fi
-echo "README's example, $examples of FORMAT.md, ${#tables[@]} tables and $blocks reasons, $bad differ"
+echo "README's example, $examples of FORMAT.md, ${#tables[@]} tables, $blocks reasons and the shares of $sheets, $bad differ"
 [ $bad -eq 0 ]

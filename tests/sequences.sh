@@ -6,6 +6,8 @@
 # Every list has an event, and its key a line for each.
 # Where there is a NAME.reason, the program reason, beside it too, is run for each of its blocks: a line `after N`, N an event of the list,
 # and below it the lines worked out by hand for the machine after that event.
+# Where there is a NAME.shares, the program shares, beside it too, is run on the list's event file: NAME.shares is what it prints, worked
+# out by hand, and empty where it prints nothing. Every NAME.reason and NAME.shares has its list.
 set -euo pipefail
 export LC_ALL=C
 [ $# -ge 1 ] || { echo "sequences.sh KEY_PROGRAM [NAME...]" >&2; exit 2; }
@@ -18,14 +20,16 @@ trap 'rm -rf "$work"' EXIT
 encoder=$(dirname "$program")/list_to_file
 plain=$(realpath -e "$(dirname "$program")/plain_key")
 reason=$(realpath -e "$(dirname "$program")/reason")
+shares=$(realpath -e "$(dirname "$program")/shares")
 cd "$here/sequences"
-bad=0 blocks=0
+bad=0 blocks=0 sheets=0
 if [ $# -eq 0 ]; then
     shopt -s nullglob
-    lists=(*.events) reasons=(*.reason)
-    [ ${#lists[@]} -gt 0 ] && [ ${#reasons[@]} -gt 0 ] || { echo "there is no list, or no reason, in $PWD"; exit 1; }
-    for name in "${reasons[@]%.reason}"; do
-        [ -f "$name.events" ] || { echo "$name.reason: there is no such list"; bad=$((bad + 1)); }
+    lists=(*.events) reasons=(*.reason) divided=(*.shares)
+    [ ${#lists[@]} -gt 0 ] && [ ${#reasons[@]} -gt 0 ] && [ ${#divided[@]} -gt 0 ] ||
+        { echo "there is no list, or no reason, or no shares, in $PWD"; exit 1; }
+    for other in "${reasons[@]}" "${divided[@]}"; do
+        [ -f "${other%.*}.events" ] || { echo "$other: there is no such list"; bad=$((bad + 1)); }
     done
     set -- "${lists[@]%.events}"
 fi
@@ -65,14 +69,22 @@ reasons_agree() { # NAME
     done
     return $ended
 }
+
+# The shares of one list, if they were worked out; its event file is there.
+shares_agree() { # NAME
+    [ -f "$1.shares" ] || return 0
+    sheets=$((sheets + 1))
+    key_to "$work/shares" "$shares" <"$work/file" || { echo "$1: no shares"; return 1; }
+    diff -u --label "$1, the shares, by hand" --label "$1, printed" "$1.shares" "$work/shares"
+}
 for name in "$@"; do
-    agrees "$name" && reasons_agree "$name" || bad=$((bad + 1))
+    agrees "$name" && reasons_agree "$name" && shares_agree "$name" || bad=$((bad + 1))
 done
-for by in "$program" "$plain" "$reason"; do
+for by in "$program" "$plain" "$reason" "$shares"; do
     if ! key_to "$work/key" "$by" </dev/null || [ "$(cat "$work/key")" != "file 14" ]; then
         echo "K10: empty input did not give 'file 14' from ${by##*/}"
         bad=$((bad + 1))
     fi
 done
-echo "$# sequences and K10, by ${program##*/} and plain_key, and $blocks reasons, by reason, $bad differ"
+echo "$# sequences and K10, by ${program##*/} and plain_key, $blocks reasons, by reason, and the shares of $sheets, by shares, $bad differ"
 [ $bad -eq 0 ]

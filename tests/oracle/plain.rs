@@ -5,7 +5,7 @@
 //! `plain` reads an event file from standard input.
 //! `plain -o FOLDER FILE...` writes the answer for each file to FOLDER, under the file's own name.
 //!
-//! Deliberately simple, and deliberately shares no code with `key.rs`. `reason.rs` uses the machine as a module.
+//! Deliberately simple, and deliberately shares no code with `key.rs`. `reason.rs` and `shares.rs` use the machine as a module.
 
 use std::collections::BTreeMap;
 use std::fmt::Write as _;

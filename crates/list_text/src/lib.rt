@@ -20,6 +20,8 @@ mod writer;
 
 use event_file::reader::file_refusal;
 use rules::Event;
+use text::INPUT;
+use text::file_buffer;
 use text::put_file_line;
 
 // What a line holds: nothing, an event, or a fault by its number.
@@ -39,9 +41,6 @@ pub struct Filed {
 // Room for the text of every file: `text-fits`, proofs/Room.antt.
 pub const ROOM: usize = 1048576;
 
-// One byte more than a file may have: `enough-of-a-file`, proofs/Enough.antt.
-const FILE: usize = 65537;
-
 // One byte more than a list may have: `enough-of-a-list`, proofs/Enough.antt.
 const LIST: usize = 1048577;
 
@@ -51,17 +50,12 @@ pub const MOST: usize = 65536;
 // Room for every sentence: `sentence-fits`, proofs/Sentences.antt.
 pub const SENTENCE: usize = 64;
 
-fn file_zeros() -> [u8; FILE]
-    ensures { λ r. ⌜ 65536 < length r ⌝ }
-{
-    [0; FILE]
-}
-
-// A buffer for a file that is read. Of an input of any length it holds enough: the text of that much is the text of the whole.
-pub fn file_input() -> [u8; FILE]
+// A buffer for a file that is read. Of an input of any length it holds enough: the text of that much is the text of the whole
+// (`enough-of-a-file`, proofs/Enough.antt).
+pub fn file_input() -> [u8; INPUT]
     ensures { λ r. ⌜ ((b : List ℕ) → fileText (take (length r) b) ≡ fileText b) ⌝ }
 {
-    file_zeros()
+    file_buffer()
 }
 
 // Writes a file's events in words into a lent buffer, from its front, and gives the text's length; a refused file as the key program's

@@ -1,7 +1,7 @@
 // From a file's bytes to the bytes of the plain machine's key, document 02, [1]: "each event's line without its last column". The key is
 // defined in rules, specs/Key.antt (`plainKey`). The two numbers that a program over this crate needs, how much it must read and how much
 // it must write, are fixed here by contracts.
-ghost use Prim.Native.Nat.{ℕ, _<_};
+ghost use Prim.Native.Nat.{ℕ};
 ghost use mathlib.Core.Path.{_≡_};
 ghost use mathlib.Core.List.{List, _++_};
 ghost use lib.ListN.{length, take, drop};
@@ -10,25 +10,19 @@ ghost use Rattle.rules.specs.Key.{plainKey};
 mod lines;
 
 use event_file::reader::file_refusal;
+use text::INPUT;
+use text::file_buffer;
 use text::put_file_line;
 
 // Room for the key of every file: `plain-fits`, in crate text.
 pub const ROOM: usize = 1048576;
 
-// One byte more than a file may have: `enough-for-plain-key`, in crate text.
-const INPUT: usize = 65537;
-
-fn zeros() -> [u8; INPUT]
-    ensures { λ r. ⌜ 65536 < length r ⌝ }
-{
-    [0; INPUT]
-}
-
-// A buffer for what is read. Of an input of any length it holds enough: the key of that much is the key of the whole.
+// A buffer for what is read. Of an input of any length it holds enough: the key of that much is the key of the whole
+// (`enough-for-plain-key`, in crate text).
 pub fn input() -> [u8; INPUT]
     ensures { λ r. ⌜ ((b : List ℕ) → plainKey (take (length r) b) ≡ plainKey b) ⌝ }
 {
-    zeros()
+    file_buffer()
 }
 
 // Writes the plain machine's key of a file into a lent buffer, from its front, and gives the key's length. Every other byte stays.

@@ -1,5 +1,5 @@
 -- The reason of an input by cases, in the order in which it is refused.
-use Prim.Native.Nat.{ℕ, zero, suc, _-_, _≤_, _<_}
+use Prim.Native.Nat.{ℕ, _-_, _≤_, _<_}
 use native.Mathlib.Omega.{arith}
 use mathlib.Core.Path.{_≡_, refl, sym, ap, _∙_}
 use mathlib.Core.List.{List, _++_}
@@ -12,6 +12,7 @@ use Rattle.rules.specs.EventFile.{fileRefusal}
 use Rattle.rules.specs.Key.{fileLine}
 use Rattle.rules.specs.Reason.{numberIn, fileIn, noSuchEvent, reasonRefusalAfter, reasonRefusal, reasonAfter, reason, machineAfter}
 use Rattle.rules.specs.Reason.{above, chainLine, causeLines, reasonOf}
+use Rattle.text.proofs.Refused.{refused-line}
 
 -- all that follows the number is the file
 pub whole-file : (input : List ℕ) → take (length input - 4) (drop 4 input) ≡ fileIn input
@@ -29,12 +30,8 @@ module _ (input : List ℕ) (long : 4 ≤ length input) {file : List ℕ} (is-fi
   by-file n e =
       rw (le-ltb (length input) 4 long) (ap (λ (k : ℕ). reasonAfter (reasonRefusalAfter k input) input) (e ∙ ap fileRefusal is-file))
 
-  line-after : (n : ℕ) → (n ≡ 0 → ⊥) → fileLine n ≡ reasonAfter (reasonRefusalAfter n input) input
-  line-after zero h = absurd (h refl)
-  line-after (suc n) h = refl
-
   pub refused-file : (n : ℕ) → n ≡ fileRefusal file → (n ≡ 0 → ⊥) → fileLine n ≡ reason input
-  refused-file n e h = line-after n h ∙ by-file n e
+  refused-file n e h = refused-line (λ k. reasonAfter (reasonRefusalAfter k input) input) (λ _. refl) refl h ∙ by-file n e
 
   module _ (accepted : fileRefusal file ≡ 0) {number : ℕ} (asked : number ≡ numberIn input) where
     same-test : noSuchEvent number file ≡ noSuchEvent (numberIn input) (fileIn input)

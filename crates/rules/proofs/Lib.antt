@@ -25,3 +25,5 @@ pub mod Removal
 pub mod Ranking
 pub mod WiderWalk
 pub mod Reasons
+pub mod Payments
+pub mod Shares

@@ -27,3 +27,5 @@ pub mod Steps
 pub mod Key
 -- The reason on the key (document 02, [5])
 pub mod Reason
+-- Shares of the watch (document 02, [13])
+pub mod Shares

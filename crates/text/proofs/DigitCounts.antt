@@ -29,8 +29,14 @@ two-long = digits-most 1
 pub three-long : (n : ℕ) → n < 1000 → length (decimal n) ≤ 3
 three-long = digits-most 2
 
+pub four-long : (n : ℕ) → n < 10000 → length (decimal n) ≤ 4
+four-long = digits-most 3
+
 pub five-long : (n : ℕ) → n < 100000 → length (decimal n) ≤ 5
 five-long = digits-most 4
+
+pub ten-long : (n : ℕ) → n < 10000000000 → length (decimal n) ≤ 10
+ten-long = digits-most 9
 
 -- a number of eight bytes
 pub twenty-long : (n : ℕ) → n < 18446744073709551616 → length (decimal n) ≤ 20

@@ -10,6 +10,7 @@ use lib.Seq.{take-all, length-take-le}
 use borrow.Author.Tests.{ltb-true, ltb-false, le-ltb}
 use Rattle.rules.specs.Key.{fileLine, key, plainKey}
 use Rattle.rules.specs.Reason.{fileIn, reason, reasonRefusal}
+use Rattle.rules.specs.Shares.{shares}
 use Rattle.rules.proofs.Basics.Views.{Two, yes-true, no-false, two}
 use Rattle.rules.proofs.Files.Refusing.{refuses-long}
 
@@ -39,12 +40,19 @@ long-plain-key : (file : List ℕ) → 65536 < length file → plainKey file ≡
 unfolding plainKey
 long-plain-key file h = rw (refuses-long file h)
 
+long-shares : (file : List ℕ) → 65536 < length file → shares file ≡ fileLine 14
+unfolding shares
+long-shares file h = rw (refuses-long file h)
+
 -- so what follows the first 65,537 bytes changes nothing
 pub enough-for-key : (n : ℕ) → 65536 < n → (b : List ℕ) → key (take n b) ≡ key b
 enough-for-key = enough-for-one key 65536 (fileLine 14) long-key
 
 pub enough-for-plain-key : (n : ℕ) → 65536 < n → (b : List ℕ) → plainKey (take n b) ≡ plainKey b
 enough-for-plain-key = enough-for-one plainKey 65536 (fileLine 14) long-plain-key
+
+pub enough-for-shares : (n : ℕ) → 65536 < n → (b : List ℕ) → shares (take n b) ≡ shares b
+enough-for-shares = enough-for-one shares 65536 (fileLine 14) long-shares
 
 -- the program `reason` has the event number, 4 bytes, before its file: 65,540 bytes are the most that it can accept
 long-reason : (input : List ℕ) → 65540 < length input → reason input ≡ fileLine 14

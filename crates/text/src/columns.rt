@@ -18,7 +18,7 @@ fn put_verdict(out: &mut [u8], at: usize, refusal: u8) -> usize
 }
 
 // A number with a space after it.
-fn put_column(out: &mut [u8], at: usize, n: u64) -> usize
+pub fn put_column(out: &mut [u8], at: usize, n: u64) -> usize
     ensures { λ r. ⌜ Put (now (out .entry)) (now (out .exit)) at r (decimal n ++ bytes " ") ⌝ }
 {
     let end = put_decimal(out, at, n);

@@ -1,14 +1,16 @@
 // Text put into a lent buffer: bytes, decimal numbers, a refused file's line, the columns of the key's lines. Each function gives the
 // place after the last byte that it wrote, where the next one goes on. What has no room is cut off, so that none of them asks for room;
-// `roomy` in proofs/Puts.antt says what is in the buffer where there is room.
+// `at-front` in proofs/Puts.antt says what is in the buffer where there is room. Last, the buffer for a file that is read.
 ghost use mathlib.Core.List.{[], _∷_};
 ghost use mathlib.Core.Path.{_≡_};
 ghost use Prim.Native.Nat.{_/_, _%_, _<_};
 ghost use Rattle.rules.specs.Key.{digit, decimal, fileLine};
+ghost use lib.ListN.{length};
 ghost use Rattle.text.specs.Put.{Put};
 
 mod columns;
 
+pub use columns::put_column;
 pub use columns::put_columns;
 
 pub fn put_byte(out: &mut [u8], at: usize, byte: u8) -> usize
@@ -104,4 +106,14 @@ pub fn put_file_line(out: &mut [u8], at: usize, refusal: u8) -> usize
     let number = put_bytes(out, at, b"file ");
     let end = put_decimal(out, number, refusal as u64);
     put_byte(out, end, b'\n')
+}
+
+// One byte more than a file may have: `enough-for-key` and its like, proofs/Enough.antt.
+pub const INPUT: usize = 65537;
+
+// A buffer for a file that is read, and for one byte behind it: what is too long is seen to be.
+pub fn file_buffer() -> [u8; INPUT]
+    ensures { λ r. ⌜ 65536 < length r ⌝ }
+{
+    [0; INPUT]
 }

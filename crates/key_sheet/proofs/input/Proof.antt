@@ -5,7 +5,7 @@ use Rattle.key_sheet.proofs.input.Statement.{statement}
 use Rattle.key_sheet.proofs.input.Tie as tie
 
 returns : tie.Need-returns
-returns c = enough-for-key (length (c .zeros .result)) (c .zeros .ensures)
+returns c = enough-for-key (length (c .file-buffer .result)) (c .file-buffer .ensures)
 
 pub input-spec : {M : Type 1} → statement M
 input-spec = tie.close (tie.spec (λ _ _. tt) returns)

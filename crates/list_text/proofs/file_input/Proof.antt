@@ -4,11 +4,11 @@ use Rattle.list_text.proofs.Enough.{enough-of-a-file}
 use Rattle.list_text.proofs.file_input.Statement.{statement}
 use Rattle.list_text.proofs.file_input.Tie as tie
 
-file-zeros-requires : tie.Need-file-zeros-requires
-file-zeros-requires c κs = tt
+file-buffer-requires : tie.Need-file-buffer-requires
+file-buffer-requires c κs = tt
 
 returns : tie.Need-returns
-returns c = enough-of-a-file (length (c .file-zeros .result)) (c .file-zeros .ensures)
+returns c = enough-of-a-file (length (c .file-buffer .result)) (c .file-buffer .ensures)
 
 pub file-input-spec : {M : Type 1} → statement M
-file-input-spec = tie.close (tie.spec file-zeros-requires returns)
+file-input-spec = tie.close (tie.spec file-buffer-requires returns)

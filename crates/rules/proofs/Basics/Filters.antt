@@ -20,7 +20,7 @@ module _ (f : ℕ → Bool) where
   filter-by P x xs g h (no-false e) = rw e (h e)
 
   -- so what holds in both cases holds
-  filter-cases : (P : List ℕ → Type 0) (x : ℕ) (xs : List ℕ)
+  pub filter-cases : (P : List ℕ → Type 0) (x : ℕ) (xs : List ℕ)
       → (f x ≡ true → P (x ∷ filter f xs)) → (f x ≡ false → P (filter f xs)) → P (filter f (x ∷ xs))
   filter-cases P x xs g h = filter-by P x xs g h (two (f x))
 

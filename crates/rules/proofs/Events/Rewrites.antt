@@ -37,6 +37,7 @@ module _ (ss : List Slice) (t : ℕ) (y : Slice) (small : t < length ss) where
 -- a timeslice in range stays so with another `left` up to its quantum, and with another priority up to 255
 pub record Range (x : Slice) : Type 0 where
   pub least : 1 ≤ x .quantum
+  pub bound : x .quantum ≤ 65535
   pub most : x .left ≤ x .quantum
   pub leaves : (k : ℕ) → k ≤ x .quantum → inRange (withLeft k x) ≡ true
   pub ranks : (k : ℕ) → k ≤ 255 → inRange (withPriority k x) ≡ true
@@ -46,6 +47,7 @@ range-of x e =
     let z = and4 (leb (x .priority) 255) (leb 1 (x .quantum)) (leb (x .quantum) 65535) (leb (x .left) (x .quantum)) e in
     record {
       least = leb-true 1 (x .quantum) (z .1);
+      bound = leb-true (x .quantum) 65535 (z .2);
       most = leb-true (x .left) (x .quantum) (z .3);
       leaves = λ k m. rw (z .0, z .1, z .2, le-leb k (x .quantum) m);
       ranks = λ k m. rw (le-leb k 255 m, z .1, z .2, z .3);

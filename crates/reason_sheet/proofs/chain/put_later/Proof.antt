@@ -7,7 +7,7 @@ use Rattle.rules.specs.Key.{bytes}
 use Rattle.rules.specs.Reason.{spaced}
 use Rattle.text.proofs.Puts.{keeps}
 use Rattle.reason_sheet.specs.Later.{later}
-use Rattle.reason_sheet.proofs.Putting.{Going, begin, more, finish}
+use Rattle.text.proofs.Putting.{Going, begin, more, finish}
 use Rattle.reason_sheet.proofs.Chains.{line-out, line-ends, line-goes-on}
 use Rattle.reason_sheet.proofs.chain.put_later.Statement.{statement}
 use Rattle.reason_sheet.proofs.chain.put_later.Tie as tie
