@@ -57,9 +57,10 @@ rows =
     -- a refused file
     ∷ record { file = []; prints = "file 14" ∷ [] }
     ∷ record { file = 0 ∷ 0 ∷ 0 ∷ 1 ∷ 2 ∷ []; prints = "file 15" ∷ [] }
+    ∷ record { file = 0 ∷ 0 ∷ 0 ∷ 2 ∷ 1 ∷ 1 ∷ []; prints = "file 16" ∷ [] }
     ∷ []
 
 pub marked : All Meets rows
 unfolding computing rows text
 marked =
-    refl also refl also refl also refl also refl also refl also refl also refl also refl also refl also refl also tt
+    refl also refl also refl also refl also refl also refl also refl also refl also refl also refl also refl also refl also tt
