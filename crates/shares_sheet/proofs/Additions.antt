@@ -53,6 +53,12 @@ module _ (units : List ℕ) where
 abbrev one : ℕ → ℕ → List Payment
 one t u = record { timeslice = t; units = u } ∷ []
 
+-- an accepted charge: there is a place for it, and room, and there it is added
+pub record Pays (units : List ℕ) (t u : ℕ) (ps : List Payment) : Type 0 where
+  pub inside : t < length units
+  pub fits : getD units t 0 + u < 18446744073709551616
+  pub added : Added units (set units t (getD units t 0 + u)) ps u
+
 module _ (units : List ℕ) (n t count u : ℕ) where
   -- what an accepted charge asks for
   one-place : Room units (one t u) → (t < length units) × (getD units t 0 + u < 18446744073709551616)
@@ -73,9 +79,8 @@ module _ (units : List ℕ) (n t count u : ℕ) where
       by s (equal e q) = rw (q, e) (getD-set-same units t (getD units t 0 + u) 0 small ∙ omega arith)
       by s (different d q) = rw q (getD-set-other units t s (getD units t 0 + u) 0 d ∙ omega arith)
 
-  module _ {k : ℕ} {r : Running} {e : Event} (z : k ≡ 0) (runs : r ≡ Runs n t count) (charge : e ≡ Charge u) where
-    pub place : Room units (paid k r e) → (t < length units) × (getD units t 0 + u < 18446744073709551616)
-    place room = one-place (rw (z, runs, charge) at room)
-
-    pub added : Room units (paid k r e) → Added units (set units t (getD units t 0 + u)) (paid k r e) u
-    added room = rw (z, runs, charge) (added-one (place room .0))
+  pub pays : {k : ℕ} {r : Running} {e : Event} → k ≡ 0 → r ≡ Runs n t count → e ≡ Charge u → Room units (paid k r e)
+      → Pays units t u (paid k r e)
+  pays z runs charge room =
+      let place = one-place (rw (z, runs, charge) at room) in
+      record { inside = place .0; fits = place .1; added = rw (z, runs, charge) (added-one (place .0)) }

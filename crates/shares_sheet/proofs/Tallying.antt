@@ -59,23 +59,29 @@ begin file m e bytes h =
       bound = printed file bytes h .bound;
     }
 
+-- a turn: the event e is found at `offset` and dispatched, r is the answer, and the file goes on at `next`
+pub record Turn (file : List ℕ) (offset next : ℕ) (m : Machine) (e : Event) (r : Answered) : Type 0 where
+  pub found : event e ≡ stepped file offset .found
+  pub moved : next ≡ stepped file offset .offset
+  pub given : Answers (dispatch e (shown m)) m r
+
 module _ {file : List ℕ} {offset : ℕ} {m : Machine} {units : List ℕ} {all : ℕ} (g : Going file offset m units all) where
-  module _ {e : Event} {next : ℕ} {r : Answered} (found : event e ≡ stepped file offset .found) (moved : next ≡ stepped file offset .offset)
-      (given : Answers (dispatch e (shown m)) m r) where
+  module _ {e : Event} {next : ℕ} {r : Answered} (x : Turn file offset next m e r) where
     abbrev now : List Payment
     now = paid (r .refusal) (m .running) e
 
     -- what the next event pays, and what those after it do
     abbrev later : List Payment
-    later = paidIn (goes-on (g .ahead) found moved given .ahead .events) (shown (r .machine))
+    later = paidIn (goes-on (g .ahead) (x .found) (x .moved) (x .given) .ahead .events) (shown (r .machine))
 
     split : paidIn (g .ahead .events) (shown m) ≡ now ++ later
     split =
-        let n = goes-on (g .ahead) found moved given in
+        let n = goes-on (g .ahead) (x .found) (x .moved) (x .given) in
         let rest = n .ahead .events in
         ap (λ (l : List Event). paidIn l (shown m)) (n .read)
         ∙ paid-first e rest (shown m)
-        ∙ ap (λ (a : events.Answered). paid (a .refusal) (m .running) e ++ paidIn rest (a .state)) (turn-answer e (g .ahead .sound) given)
+        ∙ ap (λ (a : events.Answered). paid (a .refusal) (m .running) e ++ paidIn rest (a .state))
+        (turn-answer e (g .ahead .sound) (x .given))
 
     units-split : (t : ℕ) → unitsOf t (paidIn (g .ahead .events) (shown m)) ≡ unitsOf t now + unitsOf t later
     units-split t = ap (unitsOf t) split ∙ units-append t now later
@@ -104,7 +110,7 @@ module _ {file : List ℕ} {offset : ℕ} {m : Machine} {units : List ℕ} {all 
       -- and the machine goes on
       pub counted : Going file next (r .machine) after (all + more)
       counted =
-          let n = goes-on (g .ahead) found moved given in
+          let n = goes-on (g .ahead) (x .found) (x .moved) (x .given) in
           record {
             answers = n .later;
             ahead = n .ahead;
@@ -116,7 +122,7 @@ module _ {file : List ℕ} {offset : ℕ} {m : Machine} {units : List ℕ} {all 
 
     -- each event moves on, within the file
     pub further : (offset < next) × (next ≤ length file)
-    further = let n = goes-on (g .ahead) found moved given in (n .further, n .ahead .left .inside)
+    further = let n = goes-on (g .ahead) (x .found) (x .moved) (x .given) in (n .further, n .ahead .left .inside)
 
   -- without an event all is counted
   pub done : (f : Found) → OneOf (1 ∷ 2 ∷ []) (tagOf the-type f) → shownFound f ≡ stepped file offset .found

@@ -5,7 +5,7 @@ use mathlib.Core.Path.{_≡_, sym, ap, _∙_}
 use mathlib.Core.List.{List}
 use mathlib.Core.Bool.{false}
 use lib.Dec.{ltb}
-use lib.ListN.{length, take, length-drop}
+use lib.ListN.{length, take, length-drop, replicate, length-replicate}
 use lib.Seq.{take-all, length-take-le}
 use borrow.Author.Tests.{ltb-true, ltb-false, le-ltb}
 use Rattle.rules.specs.Key.{fileLine, key, plainKey}
@@ -43,6 +43,10 @@ long-plain-key file h = rw (refuses-long file h)
 long-shares : (file : List ℕ) → 65536 < length file → shares file ≡ fileLine 14
 unfolding shares
 long-shares file h = rw (refuses-long file h)
+
+-- the buffer for a file that is read has one byte more than a file may have
+pub buffer-long : (b : List ℕ) → b ≡ replicate 65537 0 → 65536 < length b
+buffer-long b e = omega (arith, ap length e, length-replicate {A = ℕ} 65537 0)
 
 -- so what follows the first 65,537 bytes changes nothing
 pub enough-for-key : (n : ℕ) → 65536 < n → (b : List ℕ) → key (take n b) ≡ key b

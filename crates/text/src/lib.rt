@@ -5,7 +5,7 @@ ghost use mathlib.Core.List.{[], _∷_};
 ghost use mathlib.Core.Path.{_≡_};
 ghost use Prim.Native.Nat.{_/_, _%_, _<_};
 ghost use Rattle.rules.specs.Key.{digit, decimal, fileLine};
-ghost use lib.ListN.{length};
+ghost use lib.ListN.{replicate};
 ghost use Rattle.text.specs.Put.{Put};
 
 mod columns;
@@ -113,7 +113,7 @@ pub const INPUT: usize = 65537;
 
 // A buffer for a file that is read, and for one byte behind it: what is too long is seen to be.
 pub fn file_buffer() -> [u8; INPUT]
-    ensures { λ r. ⌜ 65536 < length r ⌝ }
+    ensures { λ r. ⌜ r ≡ replicate 65537 0 ⌝ }
 {
     [0; INPUT]
 }

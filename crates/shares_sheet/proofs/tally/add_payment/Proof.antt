@@ -1,6 +1,7 @@
 -- A refused event, one that is no charge, and one while nothing runs pay nothing; an accepted charge is added at the number that pays.
 use denote.Ref.{now}
-use Rattle.shares_sheet.proofs.Additions.{refused, no-charge, none-runs, place, added}
+use Rattle.rules.specs.Shares.{paid}
+use Rattle.shares_sheet.proofs.Additions.{refused, no-charge, none-runs, Pays, pays}
 use borrow.Author.Needs.{needs}
 use Rattle.shares_sheet.proofs.tally.add_payment.Statement.{statement}
 use Rattle.shares_sheet.proofs.tally.add_payment.Tie as tie
@@ -43,30 +44,18 @@ cast-units-2 c = search needs
 mul-units : tie.Need-mul-units
 mul-units c = search needs
 
-slice-read-units : tie.Need-slice-read-units
-slice-read-units c =
-    let runs = c .before .before in
-    let charge = runs .before .before .before in
+-- the charge is accepted, and a timeslice runs
+paying : (c : tie.After-slice-known) → let charge = c .before .before .before .before .before in
+    let start = charge .before .before .before in
+    Pays (now (start .args .units)) (c .before .before .running .given .0 .1 .0) (charge .event .given .0 .0)
+    (paid (start .args .refusal) (start .args .running) (start .args .event))
+paying c =
+    let who = c .before .before .running .given in
+    let charge = c .before .before .before .before .before in
     let accepted = charge .before .before in
     let start = accepted .before in
-    let who = runs .running .given in
-    place (now (start .args .units)) (who .0 .0) (who .0 .1 .0) (who .0 .1 .1 .0) (charge .event .given .0 .0)
-    (accepted .if1 .left) (who .1) (charge .event .given .1) (start .pre) .0
-
-add-units : tie.Need-add-units
-add-units c =
-    let runs = c .before .before in
-    let charge = runs .before .before .before in
-    let accepted = charge .before .before in
-    let start = accepted .before in
-    let who = runs .running .given in
-    record {
-      fits = place (now (start .args .units)) (who .0 .0) (who .0 .1 .0) (who .0 .1 .1 .0) (charge .event .given .0 .0)
-          (accepted .if1 .left) (who .1) (charge .event .given .1) (start .pre) .1;
-    }
-
-slice-write-units : tie.Need-slice-write-units
-slice-write-units c = slice-read-units c
+    pays (now (start .args .units)) (who .0 .0) (who .0 .1 .0) (who .0 .1 .1 .0) (charge .event .given .0 .0)
+    (accepted .if1 .left) (who .1) (charge .event .given .1) (start .pre)
 
 cast-result : tie.Need-cast-result
 cast-result c = search needs
@@ -74,18 +63,9 @@ cast-result c = search needs
 same-length : tie.Need-same-length
 same-length c = search needs
 
-returns-4 : tie.Need-returns-4
-returns-4 c =
-    let runs = c .before .before in
-    let charge = runs .before .before .before in
-    let accepted = charge .before .before in
-    let start = accepted .before in
-    let who = runs .running .given in
-    added (now (start .args .units)) (who .0 .0) (who .0 .1 .0) (who .0 .1 .1 .0) (charge .event .given .0 .0)
-    (accepted .if1 .left) (who .1) (charge .event .given .1) (start .pre)
-
 pub add-payment-spec : {M : Type 1} → statement M
 add-payment-spec =
     tie.close
-    (tie.spec returns enum-known-event returns-2 enum-known-running enum-told returns-3 cast-units cast-units-2 mul-units slice-read-units
-    add-units slice-write-units cast-result same-length returns-4)
+    (tie.spec returns enum-known-event returns-2 enum-known-running enum-told returns-3 cast-units cast-units-2 mul-units
+    (λ c. paying c .inside) (λ c. record { fits = paying c .fits }) (λ c. paying c .inside) cast-result same-length
+    (λ c. paying c .added))

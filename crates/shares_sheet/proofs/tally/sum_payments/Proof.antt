@@ -5,7 +5,7 @@ use mathlib.Core.Path.{sym, ap, _∙_}
 use lib.ListN.{length}
 use denote.Ref.{now}
 use Rattle.event_file.specs.Answers.{shownFound}
-use Rattle.shares_sheet.proofs.Tallying.{Going, begin, room, sum-fits, counted, further, done}
+use Rattle.shares_sheet.proofs.Tallying.{Going, Turn, begin, room, sum-fits, counted, further, done}
 use borrow.Author.Needs.{needs}
 use Rattle.shares_sheet.proofs.tally.sum_payments.Statement.{statement}
 use Rattle.shares_sheet.proofs.tally.sum_payments.Tie as tie
@@ -34,41 +34,42 @@ dispatch-requires c κs = c .before .before .before .before .loop .inv .ahead .s
 slice-aggregate-add-payment : tie.Need-slice-aggregate-add-payment Inv-loop μ-loop
 slice-aggregate-add-payment c = sym (c .before .before .before .before .before .before .before .loop .inv .size)
 
-add-payment-requires : tie.Need-add-payment-requires Inv-loop μ-loop
-add-payment-requires c κs =
-    let given = c .before .before in
-    let told = given .before .before in
+-- the event found is dispatched
+turn : (c : tie.After-dispatch Inv-loop μ-loop) → let read = c .before .before .before .before in
+    Turn (now (read .before .before .before .before .args .file)) (read .before .loop .offset) (read .step .result .offset)
+    (read .before .loop .machine) (c .before .before .found .given .0 .0) (c .dispatch .result)
+turn c =
+    let told = c .before .before in
     let read = told .before .before in
-    let found = sym (ap shownFound (told .found .given .1)) ∙ read .step .ensures .0 in
-    room (read .before .loop .inv) found (read .step .ensures .1) (given .dispatch .ensures)
+    record {
+      found = sym (ap shownFound (told .found .given .1)) ∙ read .step .ensures .0;
+      moved = read .step .ensures .1;
+      given = c .dispatch .ensures;
+    }
+
+-- what held before it
+going : (c : tie.After-dispatch Inv-loop μ-loop) → let held = c .before .before .before .before .before in
+    Going (now (held .before .before .before .args .file)) (held .loop .offset) (held .loop .machine) (held .loop .units)
+    (held .loop .total)
+going c = c .before .before .before .before .before .loop .inv
+
+add-payment-requires : tie.Need-add-payment-requires Inv-loop μ-loop
+add-payment-requires c κs = let given = c .before .before in room (going given) (turn given)
 
 add-total : tie.Need-add-total Inv-loop μ-loop
 add-total c =
     let paid = c .before in
     let given = paid .before .before .before in
-    let told = given .before .before in
-    let read = told .before .before in
-    let found = sym (ap shownFound (told .found .given .1)) ∙ read .step .ensures .0 in
-    record {
-      fits = sum-fits (read .before .loop .inv) found (read .step .ensures .1) (given .dispatch .ensures) (paid .add-payment .ensures);
-    }
+    record { fits = sum-fits (going given) (turn given) (paid .add-payment .ensures) }
 
 loop-less : tie.Need-loop-less Inv-loop μ-loop
-loop-less c =
-    let given = c .before .before .before .before in
-    let told = given .before .before in
-    let read = told .before .before in
-    let found = sym (ap shownFound (told .found .given .1)) ∙ read .step .ensures .0 in
-    omega (arith, further (read .before .loop .inv) found (read .step .ensures .1) (given .dispatch .ensures))
+loop-less c = let given = c .before .before .before .before in omega (arith, further (going given) (turn given))
 
 loop-again : tie.Need-loop-again Inv-loop μ-loop
 loop-again c =
     let paid = c .before in
     let given = paid .before .before .before in
-    let told = given .before .before in
-    let read = told .before .before in
-    let found = sym (ap shownFound (told .found .given .1)) ∙ read .step .ensures .0 in
-    counted (read .before .loop .inv) found (read .step .ensures .1) (given .dispatch .ensures) (paid .add-payment .ensures)
+    counted (going given) (turn given) (paid .add-payment .ensures)
 
 pub sum-payments-spec : {M : Type 1} → statement M
 sum-payments-spec =
