@@ -24,7 +24,7 @@ for tool in bash env dirname readlink cat mktemp rm; do ln -s "$(command -v $too
 # The programs that rt "builds" are in $work/built; while $work/slow is there, proving does not end.
 originals() {
     cp "$program" "$work/built/key"
-    cp "$(dirname "$program")"/{list_to_file,plain_key,reason,file_to_list,shares} "$work/built"
+    cp "$(dirname "$program")"/{list_to_file,plain_key,reason,file_to_list,shares,shorten} "$work/built"
 }
 originals
 cat >"$work/bin/rt" <<END
@@ -93,7 +93,7 @@ run "a full device" 1 bash -c 'key "a file" >/dev/full'
 run "a closed standard output" 1 bash -c 'key "a file" >&-'
 run "wrong use" 2 key --none
 run "wrong use with --both" 2 key --both --none
-for name in plain_key reason file_to_list shares; do
+for name in plain_key reason file_to_list shares shorten; do
     [ ! -e "$repository/target/bin/$name" ] || wrong "$name is built although nobody asked for it"
 done
 run "help without rt" 0 env PATH="$work/few" "$repository/key" --help
@@ -231,6 +231,53 @@ run "shares, the program changed" 0 key --shares samples/k1; prints_lines "${sha
 echo >>"$repository/target/bin/shares"
 run "a changed shares, not asked for" 0 key "a file"; prints "$work/k1.key"
 
+# The shorter list. Of the longest file every event is refused with 5, the first too, which is a call.
+printf 'create 0 client\ngive 7 0 10 100\nblock\nwake 0\nreply\n' >"a question"
+shorter=("create 0 client" "give 7 0 10 100" "reply")
+rm -rf "$repository/target"
+run "shorten, a list in words, first use" 0 key --shorten 8 "a question"; prints_lines "${shorter[@]}"
+[ ! -e "$repository/target/bin/key" ] || wrong "key is built although nobody asked for it"
+run "shorten, unchanged" 0 key "a question" --shorten 8; prints_lines "${shorter[@]}"; says_nothing
+run "shorten, standard input" 0 key --shorten 8 - <"a question"; prints_lines "${shorter[@]}"; says_nothing
+run "shorten, an event file" 0 key --shorten 5 longest; prints_lines "call 0"; says_nothing
+readme --shorten
+run "shorten, what is printed is a list" 0 bash -c 'key --shorten 8 "a question" | key -'
+[ "$(tail -n 1 "$work/out")" = "3 no 8 0 7 0 0" ] || wrong "the key of the shorter list ends in $(tail -n 1 "$work/out")"
+for number in 0 1 9 26 255; do
+    run "shorten, none refused with $number" 0 key --shorten $number "a question"; prints_lines "file 26"; says_nothing
+done
+run "shorten, several files, one without that refusal" 0 key --shorten 8 "loose list" "a question"
+prints_lines "loose list" "file 26" "a question" "${shorter[@]}"; says_nothing
+run "shorten, samples" 0 key --shorten 8
+[ "$(grep -c '^samples/' "$work/out")" -eq "$(ls "$repository/samples" | wc -l)" ] || wrong "not every sample"
+for file in "too long" "far too long" /dev/null; do
+    run "shorten, $file" 0 key --shorten 5 "$file"; prints_lines "file 14"; says_nothing
+done
+run "shorten, a damaged file" 0 key --shorten 5 "role 2"; prints_lines "file 16"; says_nothing
+run "shorten, another version" 0 key --shorten 5 "version 2"; prints_lines "file 15"; says_nothing
+run "shorten, a list that cannot be read" 1 key --shorten 5 "wrong list"; prints /dev/null
+says_only "key: wrong list: line 3: no such event"
+run "shorten, a missing file among others" 1 key --shorten 8 none "a question"; prints_lines "a question" "${shorter[@]}"
+says_only "key: none: no such file"
+run "shorten, a full device" 1 bash -c 'key --shorten 8 "a question" >/dev/full'; says "a write failed"
+run "shorten, a closed standard error" 0 bash -c 'key --shorten 8 "a question" 2>&-'; prints_lines "${shorter[@]}"
+run "no --shorten behind --" 1 key -- --shorten; says_only "key: --shorten: no such file"
+misused "--shorten: the number of a refusal is missing" "a question" --shorten
+for number in '' 08 00 -1 +1 ' 1' 0x1 256 1000 4294967304 --both "a question"; do
+    misused "--shorten: '$number' is no number from 0 to 255 without leading zeros" --shorten "$number" "a question"
+done
+misused "--shorten is there twice" --shorten 8 "a question" --shorten 8
+misused "--both and --shorten do not go together" --shorten 8 --both "a question"
+misused "--why and --shorten do not go together" --shorten 8 --why 8 "a question"
+misused "--shares and --shorten do not go together" --shorten 0 --shares "a question"
+misused "no option --shorten=8" --shorten=8 "a question"
+for name in shorten file_to_list list_to_file; do
+    printf '#!/bin/sh\necho 0\n' >"$repository/target/bin/$name"
+    run "shorten, $name changed" 0 key --shorten 8 "a question"; prints_lines "${shorter[@]}"; says "building it again"
+done
+echo >>"$repository/target/bin/shorten"
+run "a changed shorten, not asked for" 0 key "a file"; prints "$work/k1.key"
+
 # Instead of NAME a program that runs it, with more behind that.
 replace() { # NAME MORE
     originals
@@ -270,6 +317,21 @@ replace shares '; echo "cannot be written" >&2'
 run "a shares that says something" 1 key --shares samples/k1; says "^key: samples/k1: the program shares ended with: cannot be written$"
 replace shares '; kill -SEGV $$'
 run "a shares that crashes after printing" 1 key --shares samples/k1; says "the program shares ended with: .*status 139"
+for name in shorten file_to_list; do
+    replace $name '; echo "cannot be written" >&2'
+    run "a $name that says something, of a shorter list" 1 key --shorten 8 "a question"
+    says "^key: a question: the program $name ended with: cannot be written$"
+    replace $name '; kill -SEGV $$'
+    run "a $name that crashes after printing a shorter list" 1 key --shorten 8 "a question"
+    says "the program $name ended with: .*status 139"
+done
+replace shorten '; sleep 1.5'
+key --shorten 8 "a question" >/dev/null 2>&1 # builds it
+run "a shorten that takes longer than a second" 0 key --shorten 8 "a question"; prints_lines "${shorter[@]}"
+says_only "key: a question: still shortening (a long list can take minutes)"
+replace shorten '; sleep 0.3'
+key --shorten 8 "a question" >/dev/null 2>&1
+run "a shorten that does not" 0 key --shorten 8 "a question"; prints_lines "${shorter[@]}"; says_nothing
 originals
 rm -rf "$repository/target"
 
@@ -298,7 +360,7 @@ run "after an interruption" 0 key "a file"; prints "$work/k1.key"
 
 # ./check: rt ci says the words given and ends with the status given; the outside tests end as told.
 ci() { printf '%s\n' "$2" >"$work/ci"; echo "$1" >"$work/ci.status"; } # STATUS WORDS
-names="sequences compare wakes reasons shares words documents sentences command"
+names="sequences compare wakes reasons shares shorten words documents sentences command"
 tests() { # [NAME of the one that fails]
     local one
     for one in $names; do echo 'echo "given: $*"' >"$repository/tests/$one.sh"; done
@@ -313,6 +375,7 @@ run "check, then key" 0 key "a file"; says_nothing
 run "check, then key --both" 0 key --both "a file"; says_only "key: a file: both engines agree"
 run "check, then key --why" 0 key --why 8 samples/k1; says_nothing
 run "check, then key --shares" 0 key --shares samples/k1; says_nothing
+run "check, then key --shorten" 0 key --shorten 8 "a question"; says_nothing
 run "check, its tests and what they are given" 0 check 5 6
 {
     echo "rt: ok"
@@ -341,7 +404,7 @@ run "check without a tally" 1 check; ends_not_in '0 failed$'
 ci 0 "0 passed, 0 failed"
 run "check with nothing passed" 1 check; ends_not_in '0 failed$'
 ci 0 "7 passed, 0 failed"
-for name in key list_to_file plain_key reason file_to_list shares; do
+for name in key list_to_file plain_key reason file_to_list shares shorten; do
     originals
     rm "$work/built/$name" "$repository/target/bin/$name"
     run "check with $name missing" 1 check; ends_in "left no target/bin/$name\$"

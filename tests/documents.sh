@@ -4,7 +4,8 @@
 # What the documents show is what KEY_PROGRAM prints: README's worked example is the key of samples/bridge, the examples in docs/FORMAT.md
 # print the keys below them, samples/k1 is K1, and each table in sequences/NAME.md has the events of NAME.events and the lines of NAME.key.
 # Under its headings 'Reason after event N' stand, between backticks and in order, the lines of NAME.reason, but for those too long to show;
-# under its heading 'Shares' likewise all lines of NAME.shares, none if it is empty.
+# under its heading 'Shares' likewise all lines of NAME.shares, none if it is empty; under its headings 'Shortened, number N' those of the
+# blocks of NAME.shorter.
 set -euo pipefail
 export LC_ALL=C
 [ $# -eq 1 ] || { echo "documents.sh KEY_PROGRAM" >&2; exit 2; }
@@ -109,7 +110,7 @@ quoted() { # TITLE WORD
         inside { while (match($0, /`[^`]*`/)) { print substr($0, RSTART + 1, RLENGTH - 2); $0 = substr($0, RSTART + RLENGTH) } }'
 }
 shopt -s nullglob
-tables=(tests/sequences/*.md) blocks=0 sheets=0
+tables=(tests/sequences/*.md) blocks=0 sheets=0 asked=0
 for table in "${tables[@]}"; do
     name=${table%.md}
     if ! [ -f "$name.events" ] || ! [ -f "$name.key" ]; then
@@ -137,6 +138,14 @@ for table in "${tables[@]}"; do
         echo "$table: it has shares, and there is no $name.shares"
         bad=$((bad + 1))
     fi
+    quoted 'Shortened, number ' 'number ' <"$table" >"$work/shown"
+    if [ -f "$name.shorter" ]; then
+        same "$table, shorter lists" "$name.shorter" "$work/shown" "$name.shorter"
+        asked=$((asked + $(grep -c '^number ' "$work/shown" || true)))
+    elif [ -s "$work/shown" ]; then
+        echo "$table: it has shorter lists, and there is no $name.shorter"
+        bad=$((bad + 1))
+    fi
 done
 for list in tests/sequences/*.events; do
     [ -f "${list%.events}.md" ] || { echo "$list: no table"; bad=$((bad + 1)); }
@@ -145,5 +154,6 @@ if [ ${#tables[@]} -eq 0 ]; then
     echo "there is no table in tests/sequences"
     bad=$((bad + 1))
 fi
-echo "README's example, $examples of FORMAT.md, ${#tables[@]} tables, $blocks reasons and the shares of $sheets, $bad differ"
+echo "README's example, $examples of FORMAT.md, ${#tables[@]} tables, $blocks reasons, the shares of $sheets and the" \
+    "shorter lists for $asked numbers, $bad differ"
 [ $bad -eq 0 ]

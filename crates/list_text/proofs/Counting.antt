@@ -1,5 +1,5 @@
 -- Line by line: what is counted or put and what the lines that are left give make the whole.
-use Prim.Native.Nat.{ℕ, suc, _+_, _-_, _/_, _%_, _≤_, _<_}
+use Prim.Native.Nat.{ℕ, suc, _+_, _-_, _≤_, _<_}
 use native.Mathlib.Omega.{arith}
 use native.Mathlib.Numerals.{add-one}
 use mathlib.Core.Path.{_≡_, refl, sym, ap, _∙_}
@@ -9,7 +9,7 @@ use lib.ListN.{length, getD, take, drop, length-drop, length-append, drop-of-len
 use lib.Seq.{drop-drop, drop-cons, length-take-le}
 use borrow.Author.Tests.{lt-ltb, le-ltb}
 use Rattle.rules.specs.declared.Event.{Event}
-use Rattle.rules.specs.EventFile.{highByte, lowByte, recordOf, recordsOf, fourBytes}
+use Rattle.rules.specs.EventFile.{recordOf, recordsOf}
 use Rattle.text.specs.Put.{Put}
 use Rattle.text.proofs.Puts.{put-none, _then_, reading}
 use Rattle.list_text.specs.declared.Line.{Line}
@@ -196,11 +196,3 @@ too-long-text text line h e = rw (lt-ltb 1048576 (length text) h) (ap (λ (n : �
 pub short-text : (text : List ℕ) → length text ≤ 1048576 → readLines 1 5 (parts lineFeed text) ≡ readText text
 unfolding readText
 short-text text h = rw (le-ltb 1048576 (length text) h) refl
-
--- the length field of a short file
-pub head-bytes : (n : ℕ) → n < 65536 → 0 ∷ 0 ∷ highByte n ∷ lowByte n ∷ 1 ∷ [] ≡ fourBytes n ++ (1 ∷ [])
-head-bytes n h =
-    let first : 0 ≡ n / 16777216 = omega arith in
-    let second : 0 ≡ n / 65536 % 256 = omega arith in
-    let third : highByte n ≡ n / 256 % 256 = omega arith in
-    cc

@@ -11,11 +11,11 @@ ghost use Rattle.list_text.specs.Scanning.{counted, Counts, linesRecords
 use crate::Filed;
 use crate::Line;
 use crate::kinds::line_of;
-use crate::records::put_head;
 use crate::records::put_line;
 use crate::records::record_length;
 use crate::scan::Until;
 use crate::scan::scan;
+use text::put_head;
 
 pub struct LineCount {
     pub wrong: bool,

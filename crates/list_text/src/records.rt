@@ -1,16 +1,18 @@
 // The records of events, put into a lent buffer.
 ghost use mathlib.Core.Path.{_≡_};
-ghost use mathlib.Core.List.{[], _∷_, _++_};
+ghost use mathlib.Core.List.{[], _∷_};
 ghost use Prim.Native.Nat.{_≤_, _<_};
 ghost use lib.ListN.{length};
 ghost use Rattle.rules.specs.declared.Event;
-ghost use Rattle.rules.specs.EventFile.{highByte, lowByte, roleByte, recordOf, fourBytes};
+ghost use Rattle.rules.specs.EventFile.{roleByte, recordOf};
 ghost use Rattle.text.specs.Put.{Put};
 ghost use Rattle.list_text.specs.Scanning.{lineRecord};
 use crate::Line;
 use rules::Event;
 use rules::Role;
 use text::put_byte;
+use text::put_two;
+use text::put_word;
 
 pub fn record_length(event: Event) -> usize
     ensures { λ r. ⌜ r ≡ length (recordOf event) ⌝ }
@@ -46,34 +48,6 @@ fn role_byte(role: Role) -> u8
         Role::Client => 0,
         Role::Server => 1,
     }
-}
-
-fn put_two(out: &mut [u8], at: usize, a: u8, b: u8) -> usize
-    ensures { λ r. ⌜ Put (now (out .entry)) (now (out .exit)) at r (a ∷ b ∷ []) ⌝ }
-{
-    let second = put_byte(out, at, a);
-    put_byte(out, second, b)
-}
-
-fn high_byte(n: u16) -> u8
-    ensures { λ r. ⌜ r ≡ highByte n ⌝ }
-{
-    (n / 256) as u8
-}
-
-fn low_byte(n: u16) -> u8
-    ensures { λ r. ⌜ r ≡ lowByte n ⌝ }
-{
-    (n % 256) as u8
-}
-
-// A number of two bytes.
-fn put_word(out: &mut [u8], at: usize, n: u16) -> usize
-    ensures { λ r. ⌜ Put (now (out .entry)) (now (out .exit)) at r (highByte n ∷ lowByte n ∷ []) ⌝ }
-{
-    let high = high_byte(n);
-    let low = low_byte(n);
-    put_two(out, at, high, low)
 }
 
 // The record of an event with one operand of one byte.
@@ -156,13 +130,4 @@ pub fn put_line(out: &mut [u8], at: usize, line: Line) -> usize
         Line::One(event) => put_record(out, at, event),
         Line::Wrong(_) => at,
     }
-}
-
-// The first five bytes of a file: how many follow the length field, and the version.
-pub fn put_head(out: &mut [u8], count: u16) -> usize
-    ensures { λ r. ⌜ Put (now (out .entry)) (now (out .exit)) 0 r (fourBytes count ++ (1 ∷ [])) ⌝ }
-{
-    let third = put_two(out, 0, 0, 0);
-    let version = put_word(out, third, count);
-    put_byte(out, version, 1)
 }

@@ -1,4 +1,5 @@
--- What the definitions print, computed: K1 to K11 and rows of our own, reasons, and shares.
+-- What the definitions print, computed: K1 to K11 and rows of our own, reasons, shares, and shorter questions.
 pub mod MarkedSequences
 pub mod MarkedReasons
 pub mod MarkedShares
+pub mod MarkedShorten

@@ -14,7 +14,6 @@ use Rattle.rules.specs.declared.Chain.{Chain}
 use Rattle.rules.specs.declared.Running.{Running}
 use Rattle.rules.specs.declared.Running.the-variants.{Nothing, Runs}
 use Rattle.rules.specs.declared.Event.{Event}
-use Rattle.rules.specs.declared.Event.the-variants.{Create, Give, Call, Reply, Block, Wake, Charge, Abort, Refill, Remove, Rank}
 use Rattle.rules.specs.Tests.{member, distinct}
 use Rattle.rules.specs.State.{State, Plain, forget, limit, freeThread, ownerAt, liveAt, oneMoreIf, liveThreads}
 use Rattle.rules.specs.Walk.{Link, noLinks}
@@ -33,27 +32,18 @@ use Rattle.rules.proofs.Soundness.Shapes.{Shape}
 use Rattle.rules.proofs.Soundness.Places.{Sound, owner, owner-live}
 use Rattle.rules.proofs.Events.Hands.{linkLimit, active}
 use Rattle.rules.proofs.Agreement.{agrees}
+use Rattle.rules.proofs.Numbers.{event-number, number-most}
 
 -- the first fitting number is within a bound if every number is
 pub most : {bound rest : ℕ} (b : Bool) (k : ℕ) → T (leb k bound) → rest ≤ bound → (b gives k else rest) ≤ bound
 most {bound} true k h g = leb→le k bound h
 most {bound} false k h g = g
 
--- every refusal number is at most 18
 ruleset refusal-numbers = (most, lit≤)
 
+-- an event's is at most 18
 pub refusal-most : (e : Event) (p : Plain) → refusal e p ≤ 18
-refusal-most (Create n r) p = search refusal-numbers depth 7
-refusal-most (Give t n priority quantum) p = search refusal-numbers depth 7
-refusal-most (Call server) p = search refusal-numbers depth 7
-refusal-most Reply p = search refusal-numbers depth 7
-refusal-most Block p = search refusal-numbers depth 7
-refusal-most (Wake n) p = search refusal-numbers depth 7
-refusal-most (Charge units) p = search refusal-numbers depth 7
-refusal-most (Abort n) p = search refusal-numbers depth 7
-refusal-most (Refill t) p = search refusal-numbers depth 7
-refusal-most (Remove n) p = search refusal-numbers depth 7
-refusal-most (Rank t priority) p = search refusal-numbers depth 7
+refusal-most e p = number-most (refusal e p) (event-number e p)
 
 after-most : (k : ℕ) (e : Event) (s : State) → k ≤ 18 → dispatchAfter k e s .refusal ≤ 18
 after-most zero e s h = h

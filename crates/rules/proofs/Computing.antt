@@ -19,6 +19,7 @@ use Rattle.rules.specs.Key.{bytes, digits, decimal, columns, line, lines
 use Rattle.rules.specs.Reason.{threadsFrom, threadsOn, aboveBelow, above, cause, spaced, causeLine, causeLines, reasonOf}
 use Rattle.rules.specs.Reason.{reasonRefusal, machineAfter, reason}
 use Rattle.rules.specs.Shares.{payments, unitsOf, total, numbersFrom, payers, sharesIn, shareLine, shareLines, shares}
+use Rattle.rules.specs.Shorten.{refusedFrom, tried, passes, shorter}
 
 unfoldable pub computing : Unit {0}
 unfolding member distinct all filter below liveThreads earlier standsAbove topmost walkFrom walk donationsFrom donations setHold
@@ -28,5 +29,6 @@ unfolding member distinct all filter below liveThreads earlier standsAbove topmo
     offer judgeFrom judge plainOffer run after linksInAll plainRun allFit recordsOf fileOf recordAt eventsAfter fileRefusal eventsOf opened
     stepped started appendRefusal appended eventsIn appendedAll bytes digits decimal columns line lines fileLine key shortLines
     shortKey plainLines plainKey threadsFrom threadsOn aboveBelow above cause spaced causeLine causeLines reasonOf reasonRefusal
-    machineAfter reason payments unitsOf total numbersFrom payers sharesIn shareLine shareLines shares
+    machineAfter reason payments unitsOf total numbersFrom payers sharesIn shareLine shareLines shares refusedFrom
+    tried passes shorter
 computing = tt

@@ -2,7 +2,8 @@
 -- files; Depletion.antt has what a Spent timeslice is, Removal.antt that freed numbers are free, Ranking.antt what a rank leaves.
 -- LastColumn.antt has the plain machine's key as bytes, WithoutPlaces.antt that it never refuses with 1, and JudgingAnew.antt that what ran
 -- before an event does not matter to its judging. WiderWalk.antt has the laws of the walk's answer, and Reasons.antt that the reason on the
--- key is true. K1 to K11 and rows of our own are computed in crate marked.
+-- key is true; Shares.antt that the shares are, and Shortening/Shorter.antt that a shorter question is one. K1 to K11 and rows of our own
+-- are computed in crate marked.
 pub mod Computing
 pub mod Basics
 pub mod Files
@@ -13,6 +14,7 @@ pub mod Tables
 pub mod Choosing
 pub mod Events
 pub mod Agreement
+pub mod Numbers
 pub mod Bounds
 pub mod Demands
 pub mod LastColumn
@@ -27,3 +29,4 @@ pub mod WiderWalk
 pub mod Reasons
 pub mod Payments
 pub mod Shares
+pub mod Shortening

@@ -2,14 +2,11 @@
 -- what is shaped no event is refused with 1.
 use Prim.Native.Nat.{ℕ, zero, suc}
 use mathlib.Core.Path.{_≡_, refl, ap, sym, _∙_}
-use mathlib.Core.Bool.{Bool, true, false, not}
-use lib.Dec.{T, eqb}
-use borrow.Author.Tests.{eqb-false}
+use mathlib.Core.Bool.{true}
 use Rattle.rules.specs.declared.Event.{Event}
-use Rattle.rules.specs.declared.Event.the-variants.{Create, Give, Call, Reply, Block, Wake, Charge, Abort, Refill, Remove, Rank}
 use Rattle.rules.specs.State.{State, Plain, forget, empty}
 use Rattle.rules.specs.Sound.{shaped, placed, settled, sound}
-use Rattle.rules.specs.Refusals.{_gives_else_, refusal}
+use Rattle.rules.specs.Refusals.{refusal}
 use Rattle.rules.specs.Events.{offer}
 use Rattle.rules.specs.Plain.{emptyPlain, plainOfferAfter, plainOffer}
 use Rattle.rules.specs.Lists.{Ranged}
@@ -17,6 +14,7 @@ use Rattle.rules.proofs.Basics.Views.{and3}
 use Rattle.rules.proofs.Soundness.Places.{sound-of}
 use Rattle.rules.proofs.Agreement.{agrees}
 use Rattle.rules.proofs.Demands.{accepted-sound, empty-sound}
+use Rattle.rules.proofs.Numbers.{event-number, not-one}
 
 -- p is a sound machine without its places
 pub record OfSound (p : Plain) : Type 0 where
@@ -45,35 +43,6 @@ of-sound-after e f x =
       forgotten = agrees e s (sound-of s (x .sound-state)) f .plain ∙ ap (λ (q : Plain). plainOffer e q .plain) (x .forgotten);
     }
 
--- no number of the list is 1
-record Other (k : ℕ) : Type 0 where
-  than-1 : eqb k 1 ≡ false
-
-goes-on : {rest : ℕ} (b : Bool) (k : ℕ) → T (not (eqb k 1)) → Other rest → Other (b gives k else rest)
-goes-on true k x later = record { than-1 = by (eqb k 1) x }
-  where
-    by : (c : Bool) → T (not c) → c ≡ false
-    by false y = refl
-goes-on false k x later = later
-
-none : Other 0
-none = record { than-1 = refl }
-
-ruleset other-numbers = (goes-on, none)
-
-numbers : (e : Event) (p : Plain) → Other (refusal e p)
-numbers (Create n r) p = search other-numbers depth 7
-numbers (Give t n priority quantum) p = search other-numbers depth 7
-numbers (Call s) p = search other-numbers depth 7
-numbers Reply p = search other-numbers depth 7
-numbers Block p = search other-numbers depth 7
-numbers (Wake n) p = search other-numbers depth 7
-numbers (Charge units) p = search other-numbers depth 7
-numbers (Abort n) p = search other-numbers depth 7
-numbers (Refill t) p = search other-numbers depth 7
-numbers (Remove n) p = search other-numbers depth 7
-numbers (Rank t priority) p = search other-numbers depth 7
-
 number-after : (k : ℕ) (e : Event) (p : Plain) → plainOfferAfter k e p .refusal ≡ k
 number-after zero e p = refl
 number-after (suc k) e p = refl
@@ -81,4 +50,4 @@ number-after (suc k) e p = refl
 -- "1 never arises"
 pub never-1 : (e : Event) (p : Plain) → plainOffer e p .refusal ≡ 1 → ⊥
 unfolding plainOffer
-never-1 e p one = eqb-false (refusal e p) 1 (numbers e p .than-1) (sym (number-after (refusal e p) e p) ∙ one)
+never-1 e p one = not-one (refusal e p) (event-number e p) (sym (number-after (refusal e p) e p) ∙ one)

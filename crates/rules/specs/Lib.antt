@@ -29,3 +29,5 @@ pub mod Key
 pub mod Reason
 -- Shares of the watch (document 02, [13])
 pub mod Shares
+-- A shorter question with the same refusal (document 02, [11])
+pub mod Shorten

@@ -9,9 +9,13 @@ ghost use lib.ListN.{replicate};
 ghost use Rattle.text.specs.Put.{Put};
 
 mod columns;
+mod head;
 
 pub use columns::put_column;
 pub use columns::put_columns;
+pub use head::put_head;
+pub use head::put_two;
+pub use head::put_word;
 
 pub fn put_byte(out: &mut [u8], at: usize, byte: u8) -> usize
     ensures { λ r. ⌜ Put (now (out .entry)) (now (out .exit)) at r (byte ∷ []) ⌝ }

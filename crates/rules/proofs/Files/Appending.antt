@@ -29,13 +29,13 @@ starts buffer h =
     }
 
 -- the records of two lists in a row
-recordsOf-append : (es fs : List Event) → recordsOf (es ++ fs) ≡ recordsOf es ++ recordsOf fs
+pub recordsOf-append : (es fs : List Event) → recordsOf (es ++ fs) ≡ recordsOf es ++ recordsOf fs
 unfolding recordsOf
 recordsOf-append [] fs = refl
 recordsOf-append (e ∷ es) fs =
     ap (λ (l : List ℕ). recordOf e ++ l) (recordsOf-append es fs) ∙ sym (append-assoc (recordOf e) (recordsOf es) (recordsOf fs))
 
-recordsOf-one : (es : List Event) (e : Event) → recordsOf (es ++ (e ∷ [])) ≡ recordsOf es ++ recordOf e
+pub recordsOf-one : (es : List Event) (e : Event) → recordsOf (es ++ (e ∷ [])) ≡ recordsOf es ++ recordOf e
 unfolding recordsOf
 recordsOf-one es e = recordsOf-append es (e ∷ []) ∙ ap (λ (l : List ℕ). recordsOf es ++ l) (append-nil (recordOf e))
 

@@ -38,7 +38,7 @@ rank-fits : (t priority : ℕ) → fits (Rank t priority) ≡ true → priority 
 rank-fits t priority f = leb-true priority 255 (all-head byte priority _ (all-tail byte t _ f))
 
 -- so events whose operands fit are in range
-ranged : (e : Event) → fits e ≡ true → Ranged e
+pub ranged : (e : Event) → fits e ≡ true → Ranged e
 ranged e f =
     record {
       give = λ t n priority quantum is. give-fits t n priority quantum (sym (ap fits is) ∙ f);

@@ -53,7 +53,7 @@ record-back e rest =
     (within (bodyBytes e) rest ∙ body-back e)
     (drop-append-seam (bodyBytes e) rest)
 
-records-back : (es : List Event) → eventsAfter 0 (recordsOf es) ≡ some es
+pub records-back : (es : List Event) → eventsAfter 0 (recordsOf es) ≡ some es
 unfolding recordsOf eventsAfter
 records-back [] = refl
 records-back (e ∷ es) = record-back e (recordsOf es) ∙ ap (λ (o : Option (List Event)). joined (some e) o) (records-back es)

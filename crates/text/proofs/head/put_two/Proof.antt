@@ -1,8 +1,8 @@
 -- One byte and then the other.
 use Rattle.text.proofs.Puts.{_then_}
 use borrow.Author.Needs.{needs}
-use Rattle.list_text.proofs.records.put_two.Statement.{statement}
-use Rattle.list_text.proofs.records.put_two.Tie as tie
+use Rattle.text.proofs.head.put_two.Statement.{statement}
+use Rattle.text.proofs.head.put_two.Tie as tie
 
 put-byte-requires : tie.Need-put-byte-requires
 put-byte-requires c κs = tt

@@ -1,11 +1,11 @@
 -- The high byte and then the low one.
 use Rattle.text.proofs.Puts.{reading}
 use Prim.Native.Nat.{ℕ}
 use mathlib.Core.List.{[], _∷_}
 use mathlib.Core.Path.{ap₂}
 use borrow.Author.Needs.{needs}
-use Rattle.list_text.proofs.records.put_word.Statement.{statement}
-use Rattle.list_text.proofs.records.put_word.Tie as tie
+use Rattle.text.proofs.head.put_word.Statement.{statement}
+use Rattle.text.proofs.head.put_word.Tie as tie
 
 high-byte-requires : tie.Need-high-byte-requires
 high-byte-requires c κs = tt

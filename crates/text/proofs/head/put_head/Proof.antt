@@ -1,10 +1,10 @@
 -- The length field of a short file begins with two zeros.
 use Rattle.text.proofs.Puts.{_then_, reading}
-use Rattle.list_text.proofs.Counting.{head-bytes}
+use Rattle.text.proofs.Heads.{head-bytes}
 use Prim.Native.Nat.{_<_}
 use borrow.Author.Needs.{needs}
-use Rattle.list_text.proofs.records.put_head.Statement.{statement}
-use Rattle.list_text.proofs.records.put_head.Tie as tie
+use Rattle.text.proofs.head.put_head.Statement.{statement}
+use Rattle.text.proofs.head.put_head.Tie as tie
 
 put-two-requires : tie.Need-put-two-requires
 put-two-requires c κs = tt

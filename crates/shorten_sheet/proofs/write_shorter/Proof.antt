@@ -1,0 +1,122 @@
+-- Nothing, a refused file, a number with which no event is refused: the line of each. Else the shorter file.
+use native.Mathlib.Omega.{arith}
+use mathlib.Core.Path.{_≡_, sym, ap, _∙_}
+use lib.ListN.{getD}
+use denote.Ref.{now}
+use borrow.Author.Tests.{not-true, not-false}
+use Rattle.rules.specs.EventFile.{Bytes, fileRefusal, eventsOf}
+use Rattle.rules.specs.Shorten.{refusedFrom, refusedIn, shorter}
+use Rattle.dispatcher.specs.declared.Machine.{Machine}
+use Rattle.dispatcher.specs.Shown.{shown, soundMachine}
+use Rattle.dispatcher.proofs.Runs.{empty-machine-sound}
+use Rattle.text.proofs.Puts.{at-front, reading}
+use Rattle.shorten_sheet.specs.Standing.{eventsAt}
+use Rattle.shorten_sheet.proofs.Room.{shorter-fits}
+use Rattle.shorten_sheet.proofs.Sheet.{fileBehind, file-narrow, number-and-file, file-read, file-events}
+use Rattle.shorten_sheet.proofs.Sheet.{no-input, refused-shorter, none-shorter, some-shorter}
+use borrow.Author.Needs.{needs}
+use Rattle.shorten_sheet.proofs.write_shorter.Statement.{statement}
+use Rattle.shorten_sheet.proofs.write_shorter.Tie as tie
+
+-- what an input is
+narrow : (c : tie.After-shared-slice-known) → Bytes (now (c .before .args .input))
+narrow c = λ i. c .shared-slice-known .given i .fits
+
+returns : tie.Need-returns
+returns c =
+    let lent = c .before in
+    let tested = lent .before in
+    let known = tested .before in
+    let input = now (known .before .args .input) in
+    at-front (omega (arith, shorter-fits input (narrow known), lent .put-file-line-arg .given .0 .1))
+    (reading (no-input input (tested .if1 .taken)) (c .put-file-line .ensures))
+
+shared-slice-read-number : tie.Need-shared-slice-read-number
+shared-slice-read-number c = search needs
+
+sub-file : tie.Need-sub-file
+sub-file c = search needs
+
+part-file-start : tie.Need-part-file-start
+part-file-start c = search needs
+
+part-file-end : tie.Need-part-file-end
+part-file-end c = search needs
+
+returns-2 : tie.Need-returns-2
+returns-2 c =
+    let lent = c .before in
+    let tested = lent .before in
+    let read = tested .before in
+    let some = read .before .before .before in
+    let known = some .before in
+    let input = now (known .before .args .input) in
+    let line = refused-shorter (getD input 0 0) (fileBehind input) (read .file-refusal .result) (read .file-refusal .ensures)
+    (tested .if2 .taken) in
+    at-front (omega (arith, shorter-fits input (narrow known), lent .put-file-line-arg2 .given .0 .1))
+    (reading (line ∙ ap shorter (number-and-file input (some .if1 .left))) (c .put-file-line2 .ensures))
+
+-- an accepted file
+accepted : (c : tie.Else2) → fileRefusal (fileBehind (now (c .before .before .before .before .before .before .args .input))) ≡ 0
+accepted c = sym (c .before .file-refusal .ensures) ∙ c .if2 .left
+
+ask-requires : tie.Need-ask-requires
+ask-requires c κs =
+    let tested = c .before in
+    let known = tested .before .before .before .before .before in
+    let input = now (known .before .args .input) in (
+      file-read (fileBehind input) (file-narrow input (narrow known)) (accepted tested),
+      ap soundMachine (c .empty .ensures) ∙ empty-machine-sound,
+    )
+
+-- whether some event is refused with the number
+asked : (c : tie.After-ask) → let input = now (c .before .before .before .before .before .before .before .before .args .input) in
+    refusedIn (getD input 0 0) (eventsOf (fileBehind input)) ≡ c .ask .result .found
+asked c =
+    let made = c .before in
+    let tested = made .before in
+    let known = tested .before .before .before .before .before in
+    let input = now (known .before .args .input) in
+    let k = getD input 0 0 in
+    let file = fileBehind input in
+    sym (c .ask .ensures .found
+    ∙ ap (λ (m : Machine). refusedFrom k (eventsAt 5 file) (shown m)) (made .empty .ensures)
+    ∙ ap (refusedIn k) (file-events file (file-narrow input (narrow known)) (accepted tested)))
+
+returns-3 : tie.Need-returns-3
+returns-3 c =
+    let lent = c .before in
+    let tested = lent .before in
+    let given = tested .before .before in
+    let read = given .before .before in
+    let some = read .before .before .before .before in
+    let known = some .before in
+    let input = now (known .before .args .input) in
+    let line = none-shorter (getD input 0 0) (fileBehind input) (accepted read) (asked given ∙ not-true _ (tested .if3 .taken)) in
+    at-front (omega (arith, shorter-fits input (narrow known), lent .put-file-line-arg3 .given .0 .1))
+    (reading (line ∙ ap shorter (number-and-file input (some .if1 .left))) (c .put-file-line3 .ensures))
+
+put-shortened-requires : tie.Need-put-shortened-requires
+put-shortened-requires c κs =
+    let tested = c .before in
+    let given = tested .before .before in
+    (accepted (given .before .before), asked given ∙ not-false _ (tested .if3 .left))
+
+returns-4 : tie.Need-returns-4
+returns-4 c =
+    let lent = c .before in
+    let tested = lent .before in
+    let given = tested .before .before in
+    let read = given .before .before in
+    let some = read .before .before .before .before in
+    let known = some .before in
+    let input = now (known .before .args .input) in
+    let file = some-shorter (getD input 0 0) (fileBehind input) (accepted read) (asked given ∙ not-false _ (tested .if3 .left)) in
+    at-front (omega (arith, shorter-fits input (narrow known), lent .put-shortened-arg .given .0 .1))
+    (reading (file ∙ ap shorter (number-and-file input (some .if1 .left))) (c .put-shortened .ensures))
+
+pub write-shorter-spec : {M : Type 1} → statement M
+write-shorter-spec =
+    tie.close
+    (tie.spec (λ _ _. tt) returns shared-slice-read-number sub-file part-file-start part-file-end (λ _ _. tt) (λ _ _. tt) returns-2
+    (λ _ _. tt) ask-requires (λ _ _. tt) returns-3 put-shortened-requires returns-4)
