@@ -21,6 +21,14 @@ use Rattle.shorten_sheet.specs.Promises.{Rests}
 use Rattle.shorten_sheet.specs.declared.rounds.Rest.{Rest}
 use Rattle.shorten_sheet.proofs.Standing.{events-at, stand-read, stand-size, drop-take}
 
+-- between the two places of a buffer stand the records of the shorter question
+pub record Left (k : ℕ) (file buffer : List ℕ) (r : Rest) : Type 0 where
+  pub order : r .from ≤ r .to
+  pub inside : r .to ≤ length buffer
+  pub short : 5 + length (take (r .to - r .from) (drop (r .from) buffer)) < 65537
+  pub bytes : fourBytes (1 + length (take (r .to - r .from) (drop (r .from) buffer)))
+      ++ (1 ∷ take (r .to - r .from) (drop (r .from) buffer)) ≡ fileOf (shortened k (eventsOf file))
+
 -- the records of an accepted file
 module _ (file : List ℕ) (narrow : Bytes file) (h : fileRefusal file ≡ 0) where
   pub file-stands : Stand file 5 (eventsOf file)
@@ -65,16 +73,16 @@ module _ (file : List ℕ) (narrow : Bytes file) (h : fileRefusal file ≡ 0) wh
       part-size : length part ≡ length file
       part-size = x .size ∙ ap length copy-front
 
-      pub rest-order : r .from ≤ r .to
+      rest-order : r .from ≤ r .to
       rest-order = omega (arith, x .stands .inside, length-take-le (r .to) part (x .within))
 
-      pub rest-inside : r .to ≤ length (part ++ drop end copy)
+      rest-inside : r .to ≤ length (part ++ drop end copy)
       rest-inside = omega (arith, x .within, length-append part (drop end copy))
 
       abbrev records : List ℕ
       records = take (r .to - r .from) (drop (r .from) (part ++ drop end copy))
 
-      pub rest-records : records ≡ recordsOf (shortened k (eventsOf file))
+      rest-records : records ≡ recordsOf (shortened k (eventsOf file))
       rest-records =
           let low : r .from ≤ length part = omega (arith, rest-order, x .within) in
           let size : r .to ≡ r .from + (r .to - r .from) = omega (arith, rest-order) in
@@ -85,7 +93,7 @@ module _ (file : List ℕ) (narrow : Bytes file) (h : fileRefusal file ≡ 0) wh
           ∙ x .stands .whole
           ∙ ap (λ (l : List Event). recordsOf (shortened k l)) copy-events
 
-      pub rest-short : 5 + length records < 65537
+      rest-short : 5 + length records < 65537
       rest-short =
           omega (
             arith,
@@ -99,9 +107,12 @@ module _ (file : List ℕ) (narrow : Bytes file) (h : fileRefusal file ≡ 0) wh
             accepted file h .head .small,
           )
 
-      pub rest-file : fourBytes (1 + length records) ++ (1 ∷ records) ≡ fileOf (shortened k (eventsOf file))
+      rest-file : fourBytes (1 + length records) ++ (1 ∷ records) ≡ fileOf (shortened k (eventsOf file))
       unfolding fileOf
       rest-file = ap (λ (l : List ℕ). fourBytes (1 + length l) ++ (1 ∷ l)) rest-records
+
+      pub left-of-it : Left k file (part ++ drop end copy) r
+      left-of-it = record { order = rest-order; inside = rest-inside; short = rest-short; bytes = rest-file }
 
 -- BY CASES: a refused file, no event refused with the number, some such event
 module _ (k : ℕ) (file : List ℕ) where

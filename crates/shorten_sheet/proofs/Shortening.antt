@@ -13,7 +13,7 @@ use Rattle.rules.specs.State.{empty}
 use Rattle.rules.specs.Shorten.{refusedFrom, refusedIn, pass, shortened}
 use Rattle.rules.proofs.Files.Appending.{recordsOf-one}
 use Rattle.rules.proofs.Shortening.Passing.{Passed, whole, fewer, passed, pass-part, pass-refused}
-use Rattle.rules.proofs.Shortening.Repeating.{again, cut-off, last-pass}
+use Rattle.rules.proofs.Shortening.Repeating.{again as pass-again, cut-off, last-pass}
 use Rattle.rules.proofs.Shortening.Shorter.{part-records}
 use Rattle.dispatcher.specs.declared.Machine.{Machine}
 use Rattle.dispatcher.specs.Shown.{shown, emptyMachine}
@@ -43,6 +43,14 @@ all-events {k} {file} x h =
       asked = h;
       same = refl;
     }
+
+-- what a round leaves in the buffer, now `next`: there is another round, or, where nothing was left out, what is left is the goal
+pub record Done (k : ℕ) (before : List ℕ) (from to : ℕ) (goal : List Event) (r : Asked) (next : List ℕ) (place : ℕ) : Type 0 where
+  pub size : length next ≡ length before
+  pub cut : r .to ≤ to
+  pub inside : place ≤ r .to
+  pub again : Round k before next place (r .to) goal
+  pub last : place ≤ from → Rests before next (record { from = from; to = r .to }) goal
 
 module _ {k : ℕ} {before now : List ℕ} {from to : ℕ} {goal : List Event} (t : Round k before now from to goal) where
   pub round-read : Stand (take to now) from (eventsAt from (take to now))
@@ -76,7 +84,7 @@ module _ {k : ℕ} {before now : List ℕ} {from to : ℕ} {goal : List Event} (
     both : Stand (take to now) from (cut ++ first .behind)
     both = subst (λ (l : List Event). Stand (take to now) from l) row (t .stands)
 
-    pub cut-inside : r .to ≤ to
+    cut-inside : r .to ≤ to
     cut-inside = omega (arith, cut-within cut (first .behind) both cut-ends, length-take-le to now (t .within))
 
     pub part-inside : r .to ≤ length now
@@ -122,7 +130,7 @@ module _ {k : ℕ} {before now : List ℕ} {from to : ℕ} {goal : List Event} (
         part-size : length part ≡ r .to
         part-size = y .size ∙ length-take-le (r .to) now part-inside
 
-        pub next-size : length next ≡ length before
+        next-size : length next ≡ length before
         next-size =
             omega (arith, part-size, length-append part (drop (r .to) now), length-drop (r .to) now, part-inside, t .size)
 
@@ -135,7 +143,7 @@ module _ {k : ℕ} {before now : List ℕ} {from to : ℕ} {goal : List Event} (
             (subst (λ (l : List Event). Stand part place l) (its-pass e) (y .rear))
 
         -- some are left out: there is another round
-        pub next-round : Round k before next place (r .to) goal
+        next-round : Round k before next place (r .to) goal
         next-round =
             record {
               events = pass k cut;
@@ -143,11 +151,8 @@ module _ {k : ℕ} {before now : List ℕ} {from to : ℕ} {goal : List Event} (
               within = next-within;
               stands = pass-stands;
               asked = pass-refused k cut (sym (from-empty cut) ∙ first .refused);
-              same = sym (again k cut) ∙ same-cut;
+              same = sym (pass-again k cut) ∙ same-cut;
             }
-
-        pub place-inside : place ≤ r .to
-        place-inside = omega (arith, part-size, y .rear .inside)
 
         -- none is
         none-out : place ≤ from → pass k cut ≡ cut
@@ -167,7 +172,7 @@ module _ {k : ℕ} {before now : List ℕ} {from to : ℕ} {goal : List Event} (
                   length-take-le (r .to) next next-within,
                 ))
 
-        pub last-round : place ≤ from → Rests before next (record { from = from; to = r .to }) goal
+        last-round : place ≤ from → Rests before next (record { from = from; to = r .to }) goal
         last-round low =
             let whole-pass = none-out low in
             let same-place : place ≡ from = omega (arith, y .above) in
@@ -178,4 +183,14 @@ module _ {k : ℕ} {before now : List ℕ} {from to : ℕ} {goal : List Event} (
                   subst (λ (n : ℕ). Stand (take (r .to) next) n goal) same-place
                   (subst (λ (l : List Event). Stand (take (r .to) next) place l)
                   (whole-pass ∙ sym (last-pass k (length cut) cut whole-pass) ∙ same-cut) pass-stands);
+            }
+
+        pub done : Done k before from to goal r next place
+        done =
+            record {
+              size = next-size;
+              cut = cut-inside;
+              inside = omega (arith, part-size, y .rear .inside);
+              again = next-round;
+              last = last-round;
             }

@@ -1,11 +1,13 @@
 -- The file is copied, its copy is shortened, and the records that are left are put behind a head.
 use mathlib.Core.Path.{sym, ap, _∙_}
+use mathlib.Core.List.{_++_}
+use lib.ListN.{drop}
 use lib.Seq.{length-take-le}
 use denote.Ref.{now}
 use Rattle.rules.specs.EventFile.{Bytes}
 use Rattle.rules.specs.Shorten.{refusedIn}
 use Rattle.text.proofs.Puts.{reading}
-use Rattle.shorten_sheet.proofs.Sheet.{copy-inside, copy-stands, copy-events, rest-order, rest-inside, rest-short, rest-file}
+use Rattle.shorten_sheet.proofs.Sheet.{copy-inside, copy-stands, copy-events, Left, left-of-it}
 use borrow.Author.Needs.{needs}
 use Rattle.shorten_sheet.proofs.put_shortened.Statement.{statement}
 use Rattle.shorten_sheet.proofs.put_shortened.Tie as tie
@@ -40,38 +42,18 @@ shorten-requires c κs =
           ∙ start .pre .1,
     )
 
-sub-put-file : tie.Need-sub-put-file
-sub-put-file c =
-    let left = c .before .before in
-    let copied = left .before .before .before in
+-- what is left of the copy
+left : (c : tie.After-shorten) → let copied = c .before .before .before in
+    let start = copied .before .before .before .before .before in
+    Left (start .args .number) (now (start .args .file))
+    (c .shorten .last .0 ++ drop (copied .put-bytes .result) (copied .put-bytes .last .0)) (c .shorten .result)
+left c =
+    let copied = c .before .before .before in
     let made = copied .before .before in
     let known = made .before in
     let start = known .before .before in
-    rest-order (now (start .args .file)) (narrow known) (start .pre .0) (made .file-buffer .ensures) (copied .put-bytes .ensures)
-    (start .args .number) (left .shorten .ensures)
-
-part-put-file-start : tie.Need-part-put-file-start
-part-put-file-start c = sub-put-file (c .before)
-
-part-put-file-end : tie.Need-part-put-file-end
-part-put-file-end c =
-    let left = c .before .before .before in
-    let copied = left .before .before .before in
-    let made = copied .before .before in
-    let known = made .before in
-    let start = known .before .before in
-    rest-inside (now (start .args .file)) (narrow known) (start .pre .0) (made .file-buffer .ensures) (copied .put-bytes .ensures)
-    (start .args .number) (left .shorten .ensures)
-
-put-file-requires : tie.Need-put-file-requires
-put-file-requires c κs =
-    let left = c .before .before .before .before in
-    let copied = left .before .before .before in
-    let made = copied .before .before in
-    let known = made .before in
-    let start = known .before .before in
-    rest-short (now (start .args .file)) (narrow known) (start .pre .0) (made .file-buffer .ensures) (copied .put-bytes .ensures)
-    (start .args .number) (left .shorten .ensures)
+    left-of-it (now (start .args .file)) (narrow known) (start .pre .0) (made .file-buffer .ensures) (copied .put-bytes .ensures)
+    (start .args .number) (c .shorten .ensures)
 
 same-length : tie.Need-same-length
 same-length c = search needs
@@ -79,16 +61,13 @@ same-length c = search needs
 returns : tie.Need-returns
 returns c =
     let put = c .before .before in
-    let left = put .before .before .before .before .before in
-    let copied = left .before .before .before in
-    let made = copied .before .before in
-    let known = made .before in
-    let start = known .before .before in
-    reading (rest-file (now (start .args .file)) (narrow known) (start .pre .0) (made .file-buffer .ensures) (copied .put-bytes .ensures)
-    (start .args .number) (left .shorten .ensures)) (put .put-file .ensures)
+    reading (left (put .before .before .before .before .before) .bytes) (put .put-file .ensures)
 
 pub put-shortened-spec : {M : Type 1} → statement M
 put-shortened-spec =
     tie.close
-    (tie.spec (λ _ _. tt) slice-aggregate-put-bytes (λ _ _. tt) copy-within copy-lent shorten-requires sub-put-file part-put-file-start
-    part-put-file-end put-file-requires same-length returns)
+    (tie.spec (λ _ _. tt) slice-aggregate-put-bytes (λ _ _. tt) copy-within copy-lent shorten-requires
+    (λ c. left (c .before .before) .order)  -- the records: where they begin and end
+    (λ c. left (c .before .before .before) .order)
+    (λ c. left (c .before .before .before) .inside)
+    (λ c κs. left (c .before .before .before .before) .short) same-length returns)

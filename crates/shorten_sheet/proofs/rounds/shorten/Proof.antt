@@ -2,13 +2,15 @@
 use Prim.Native.Nat.{_-_}
 use native.Mathlib.Omega.{arith}
 use mathlib.Core.Path.{sym, ap, _∙_}
+use mathlib.Core.List.{_++_}
+use lib.ListN.{drop}
 use lib.Seq.{length-take-le}
+use denote.Ref.{now}
 use Rattle.rules.specs.Shorten.{shortened}
 use Rattle.dispatcher.specs.Shown.{soundMachine}
 use Rattle.dispatcher.proofs.Runs.{empty-machine-sound}
 use Rattle.shorten_sheet.specs.Standing.{eventsAt}
-use Rattle.shorten_sheet.proofs.Shortening.{Round, all-events, round-read, part-inside, round-apart}
-use Rattle.shorten_sheet.proofs.Shortening.{cut-inside, next-size, next-round, place-inside, last-round}
+use Rattle.shorten_sheet.proofs.Shortening.{Round, all-events, round-read, part-inside, round-apart, Done, done}
 use Rattle.shorten_sheet.proofs.rounds.shorten.Statement.{statement}
 use Rattle.shorten_sheet.proofs.rounds.shorten.Tie as tie
 
@@ -44,42 +46,30 @@ try-part-requires c κs =
       ap soundMachine (c .empty2 .ensures) ∙ empty-machine-sound,
     )
 
-same-length : tie.Need-same-length Inv-loop μ-loop
-same-length c =
-    let kept = c .before .before .before in
-    let asked = kept .before .before .before in
+-- the round
+round-done : (c : tie.After-try-part Inv-loop μ-loop) → let asked = c .before .before .before in
+    let held = asked .before .before .before in
+    let start = held .before .before in
+    Done (start .args .number) (now (start .args .work)) (held .loop .from) (held .loop .to)
+    (shortened (start .args .number) (eventsAt 5 (now (start .args .work)))) (asked .ask .result)
+    (c .try-part .last .0 ++ drop (asked .ask .result .to) (held .loop .work)) (c .try-part .result)
+round-done c =
+    let asked = c .before .before .before in
     let made = asked .before in
-    next-size (made .before .before .loop .inv) (made .empty .ensures) (asked .ask .ensures) (kept .before .empty2 .ensures)
-    (kept .try-part .ensures)
+    done (made .before .before .loop .inv) (made .empty .ensures) (asked .ask .ensures) (c .before .empty2 .ensures)
+    (c .try-part .ensures)
+
+same-length : tie.Need-same-length Inv-loop μ-loop
+same-length c = round-done (c .before .before .before) .size
 
 returns : tie.Need-returns Inv-loop μ-loop
-returns c =
-    let kept = c .before .before .before in
-    let asked = kept .before .before .before in
-    let made = asked .before in
-    last-round (made .before .before .loop .inv) (made .empty .ensures) (asked .ask .ensures) (kept .before .empty2 .ensures)
-    (kept .try-part .ensures) (c .if1 .taken)
+returns c = round-done (c .before .before .before) .last (c .if1 .taken)
 
 loop-less : tie.Need-loop-less Inv-loop μ-loop
-loop-less c =
-    let kept = c .before .before .before in
-    let asked = kept .before .before .before in
-    let made = asked .before in
-    let round = made .before .before .loop .inv in
-    omega (
-      arith,
-      c .if1 .left,
-      cut-inside round (made .empty .ensures) (asked .ask .ensures),
-      place-inside round (made .empty .ensures) (asked .ask .ensures) (kept .before .empty2 .ensures) (kept .try-part .ensures),
-    )
+loop-less c = let d = round-done (c .before .before .before) in omega (arith, c .if1 .left, d .cut, d .inside)
 
 loop-again : tie.Need-loop-again Inv-loop μ-loop
-loop-again c =
-    let kept = c .before .before .before in
-    let asked = kept .before .before .before in
-    let made = asked .before in
-    next-round (made .before .before .loop .inv) (made .empty .ensures) (asked .ask .ensures) (kept .before .empty2 .ensures)
-    (kept .try-part .ensures)
+loop-again c = round-done (c .before .before .before) .again
 
 pub shorten-spec : {M : Type 1} → statement M
 shorten-spec =
