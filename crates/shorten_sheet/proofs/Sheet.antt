@@ -3,7 +3,7 @@ use Prim.Native.Nat.{ℕ, _+_, _-_, _≤_, _<_}
 use native.Mathlib.Omega.{arith}
 use mathlib.Core.Path.{_≡_, refl, sym, ap, _∙_, subst}
 use mathlib.Core.List.{List, [], _∷_, _++_}
-use mathlib.Core.Bool.{Bool, true, false}
+use mathlib.Core.Bool.{Bool}
 use lib.ListN.{length, getD, take, drop, replicate, length-replicate, length-append, length-drop}
 use lib.Seq.{take-all, take-append-seam, take-append-le, drop-append-le, length-take-le}
 use Rattle.rules.specs.declared.Event.{Event}
@@ -114,22 +114,16 @@ module _ (file : List ℕ) (narrow : Bytes file) (h : fileRefusal file ≡ 0) wh
       pub left-of-it : Left k file (part ++ drop end copy) r
       left-of-it = record { order = rest-order; inside = rest-inside; short = rest-short; bytes = rest-file }
 
--- BY CASES: a refused file, no event refused with the number, some such event
+-- BY CASES: a refused file, and an accepted one, by whether some event is refused with the number
 module _ (k : ℕ) (file : List ℕ) where
   pub refused-shorter : (n : ℕ) → n ≡ fileRefusal file → (n ≡ 0 → ⊥) → fileLine n ≡ shorter (k ∷ file)
   unfolding shorter
   refused-shorter n e h = refused-line (λ m. shorterAfter m k file) (λ _. refl) e h
 
-  accepted-shorter : fileRefusal file ≡ 0 → {b : Bool} → refusedIn k (eventsOf file) ≡ b
+  pub accepted-shorter : fileRefusal file ≡ 0 → {b : Bool} → refusedIn k (eventsOf file) ≡ b
       → shorterIf b k (eventsOf file) ≡ shorter (k ∷ file)
   unfolding shorter
   accepted-shorter h test = rw (h, test)
-
-  pub none-shorter : fileRefusal file ≡ 0 → refusedIn k (eventsOf file) ≡ false → fileLine 26 ≡ shorter (k ∷ file)
-  none-shorter h test = accepted-shorter h test
-
-  pub some-shorter : fileRefusal file ≡ 0 → refusedIn k (eventsOf file) ≡ true → fileOf (shortened k (eventsOf file)) ≡ shorter (k ∷ file)
-  some-shorter h test = accepted-shorter h test
 
 -- an input that is not empty: the number, and the file behind it
 abbrev pub fileBehind : List ℕ → List ℕ

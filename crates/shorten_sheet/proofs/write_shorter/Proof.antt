@@ -1,11 +1,13 @@
 -- Nothing, a refused file, a number with which no event is refused: the line of each. Else the shorter file.
+use Prim.Native.Nat.{_≤_}
 use native.Mathlib.Omega.{arith}
 use mathlib.Core.Path.{_≡_, sym, ap, _∙_}
-use lib.ListN.{getD}
+use mathlib.Core.Bool.{Bool}
+use lib.ListN.{length, getD}
 use denote.Ref.{now}
 use borrow.Author.Tests.{not-true, not-false}
 use Rattle.rules.specs.EventFile.{Bytes, fileRefusal, eventsOf}
-use Rattle.rules.specs.Shorten.{refusedFrom, refusedIn, shorter}
+use Rattle.rules.specs.Shorten.{refusedFrom, refusedIn, shorterIf, shorter}
 use Rattle.dispatcher.specs.declared.Machine.{Machine}
 use Rattle.dispatcher.specs.Shown.{shown, soundMachine}
 use Rattle.dispatcher.proofs.Runs.{empty-machine-sound}
@@ -13,7 +15,7 @@ use Rattle.text.proofs.Puts.{at-front, reading}
 use Rattle.shorten_sheet.specs.Standing.{eventsAt}
 use Rattle.shorten_sheet.proofs.Room.{shorter-fits}
 use Rattle.shorten_sheet.proofs.Sheet.{fileBehind, file-narrow, number-and-file, file-read, file-events}
-use Rattle.shorten_sheet.proofs.Sheet.{no-input, refused-shorter, none-shorter, some-shorter}
+use Rattle.shorten_sheet.proofs.Sheet.{no-input, refused-shorter, accepted-shorter}
 use borrow.Author.Needs.{needs}
 use Rattle.shorten_sheet.proofs.write_shorter.Statement.{statement}
 use Rattle.shorten_sheet.proofs.write_shorter.Tie as tie
@@ -83,18 +85,26 @@ asked c =
     ∙ ap (λ (m : Machine). refusedFrom k (eventsAt 5 file) (shown m)) (made .empty .ensures)
     ∙ ap (refusedIn k) (file-events file (file-narrow input (narrow known)) (accepted tested)))
 
+-- what is written then, and that it has room
+written : (c : tie.After-ask) {b : Bool} → c .ask .result .found ≡ b
+    → let input = now (c .before .before .before .before .before .before .before .before .args .input) in
+    (shorterIf b (getD input 0 0) (eventsOf (fileBehind input)) ≡ shorter input) × (length (shorter input) ≤ 65536)
+written c found =
+    let tested = c .before .before in
+    let some = tested .before .before .before .before in
+    let known = some .before in
+    let input = now (known .before .args .input) in (
+      accepted-shorter (getD input 0 0) (fileBehind input) (accepted tested) (asked c ∙ found)
+          ∙ ap shorter (number-and-file input (some .if1 .left)),
+      shorter-fits input (narrow known),
+    )
+
 returns-3 : tie.Need-returns-3
 returns-3 c =
     let lent = c .before in
     let tested = lent .before in
-    let given = tested .before .before in
-    let read = given .before .before in
-    let some = read .before .before .before .before in
-    let known = some .before in
-    let input = now (known .before .args .input) in
-    let line = none-shorter (getD input 0 0) (fileBehind input) (accepted read) (asked given ∙ not-true _ (tested .if3 .taken)) in
-    at-front (omega (arith, shorter-fits input (narrow known), lent .put-file-line-arg3 .given .0 .1))
-    (reading (line ∙ ap shorter (number-and-file input (some .if1 .left))) (c .put-file-line3 .ensures))
+    let w = written (tested .before .before) (not-true _ (tested .if3 .taken)) in
+    at-front (omega (arith, w .1, lent .put-file-line-arg3 .given .0 .1)) (reading (w .0) (c .put-file-line3 .ensures))
 
 put-shortened-requires : tie.Need-put-shortened-requires
 put-shortened-requires c κs =
@@ -106,14 +116,8 @@ returns-4 : tie.Need-returns-4
 returns-4 c =
     let lent = c .before in
     let tested = lent .before in
-    let given = tested .before .before in
-    let read = given .before .before in
-    let some = read .before .before .before .before in
-    let known = some .before in
-    let input = now (known .before .args .input) in
-    let file = some-shorter (getD input 0 0) (fileBehind input) (accepted read) (asked given ∙ not-false _ (tested .if3 .left)) in
-    at-front (omega (arith, shorter-fits input (narrow known), lent .put-shortened-arg .given .0 .1))
-    (reading (file ∙ ap shorter (number-and-file input (some .if1 .left))) (c .put-shortened .ensures))
+    let w = written (tested .before .before) (not-false _ (tested .if3 .left)) in
+    at-front (omega (arith, w .1, lent .put-shortened-arg .given .0 .1)) (reading (w .0) (c .put-shortened .ensures))
 
 pub write-shorter-spec : {M : Type 1} → statement M
 write-shorter-spec =
