@@ -14,6 +14,7 @@ repository="$work/the repository"
 outside="$work/another folder"
 mkdir -p "$repository/tests" "$outside/samples" "$work/bin" "$work/few" "$work/built"
 cp -r "$here/../key" "$here/../check" "$here/../crates.txt" "$here/../samples" "$here/../tools" "$repository"
+cp -r "$here/office_tables" "$repository/tests"
 ln -s "$repository/key" "$work/bin/first"
 ln -s first "$work/bin/key"
 ln -s "$repository/check" "$work/bin/check"
@@ -24,7 +25,7 @@ for tool in bash env dirname readlink cat mktemp rm; do ln -s "$(command -v $too
 # The programs that rt "builds" are in $work/built; while $work/slow is there, proving does not end.
 originals() {
     cp "$program" "$work/built/key"
-    cp "$(dirname "$program")"/{list_to_file,plain_key,reason,file_to_list,shares,shorten} "$work/built"
+    cp "$(dirname "$program")"/{list_to_file,plain_key,reason,file_to_list,shares,shorten,ranking} "$work/built"
 }
 originals
 cat >"$work/bin/rt" <<END
@@ -66,6 +67,7 @@ prints_lines() { printf '%s\n' "$@" >"$work/lines"; prints "$work/lines"; } # LI
 says() { grep -q -- "$1" "$work/err" || wrong "it did not say '$1' but '$(cat "$work/err")'"; }
 says_only() { [ "$(cat "$work/err")" = "$1" ] || wrong "it did not say '$1' but '$(cat "$work/err")'"; }
 says_nothing() { [ ! -s "$work/err" ] || wrong "it said $(cat "$work/err")"; }
+prints_part() { grep -Fq -- "$1" "$work/out" || wrong "it did not print '$1'"; } # WORDS
 ends_in() { [[ $(tail -n 1 "$work/out") =~ $1 ]] || wrong "its last line is '$(tail -n 1 "$work/out")'"; } # PATTERN
 ends_not_in() { [[ ! $(tail -n 1 "$work/out") =~ $1 ]] || wrong "its last line is '$(tail -n 1 "$work/out")'"; }
 
@@ -93,7 +95,7 @@ run "a full device" 1 bash -c 'key "a file" >/dev/full'
 run "a closed standard output" 1 bash -c 'key "a file" >&-'
 run "wrong use" 2 key --none
 run "wrong use with --both" 2 key --both --none
-for name in plain_key reason file_to_list shares shorten; do
+for name in plain_key reason file_to_list shares shorten ranking; do
     [ ! -e "$repository/target/bin/$name" ] || wrong "$name is built although nobody asked for it"
 done
 run "help without rt" 0 env PATH="$work/few" "$repository/key" --help
@@ -278,6 +280,89 @@ done
 echo >>"$repository/target/bin/shorten"
 run "a changed shorten, not asked for" 0 key "a file"; prints "$work/k1.key"
 
+# A ranking table. Rows in falling order, a gap at 201, and the same rows as loose as they may be written.
+printf '2001 60000 40\n201 2000 120\n1 200 200\n' >"a table"
+printf '1 200 200\n202 60000 40\n' >"a gap"
+printf '# rows of an office\r\n\r\n  2001\t60000   40 \t# pump \374\200log\r\n201 2000 120#fix\r\n\t\r\n#\r\n1 200 200\r' >"loose table"
+rm -rf "$repository/target"
+run "interval, first use" 0 key --interval 1000 "a table"; prints_lines "0 120 0"
+[ "$(ls "$repository/target/bin")" = ranking ] || wrong "built are $(ls "$repository/target/bin"), and nobody asked for others"
+run "interval, unchanged" 0 key "a table" --interval 1000; prints_lines "0 120 0"; says_nothing
+run "interval, standard input" 0 key --interval 1000 - <"a table"; prints_lines "0 120 0"; says_nothing
+run "interval, several in their order" 0 key --interval 2001 --interval 0 "a table" --interval 200 --interval 2001 --interval 65535
+prints_lines "0 40 0" "23 0 0" "0 200 0" "0 40 0" "23 0 0"; says_nothing
+run "interval, several tables" 0 key --interval 200 --interval 201 "a table" "a gap" - </dev/null
+prints_lines "a table" "0 200 0" "0 120 0" "a gap" "25 0 201" "25 0 201" - "25 0 1" "25 0 1"; says_nothing
+for locale in C C.UTF-8; do
+    run "interval, a loose table, $locale" 0 env LC_ALL=$locale key --interval 200 --interval 201 --interval 2001 "loose table"
+    prints_lines "0 200 0" "0 120 0" "0 40 0"; says_nothing
+done
+readme --interval
+shown=${example[0]-}
+while read -r row; do
+    grep -Fqx -- "    $row" "$here/../README.md" || wrong "README does not show the row '$row' of that table"
+done <"$repository/${shown##* }"
+run "interval, no row" 0 key --interval 1 /dev/null; prints_lines "25 0 1"; says_nothing
+run "interval, comments alone, no line feed" 0 key --interval 1 - < <(printf '# nothing\n\n#'); prints_lines "25 0 1"; says_nothing
+run "interval, no line feed" 0 key --interval 60000 - < <(printf '1 60000 77'); prints_lines "0 77 0"; says_nothing
+run "interval, the largest numbers" 0 key --interval 65535 - < <(printf '65535 65535 255\n0 0 0\n'); prints_lines "23 0 0"; says_nothing
+printf '1 60000 77\n%1048565s' '' >"longest table"
+run "interval, the longest table" 0 key --interval 1 "longest table"; prints_lines "0 77 0"; says_nothing
+echo >>"longest table"
+run "interval, a table that is too long" 1 key --interval 1 "longest table"; prints /dev/null
+says_only "key: longest table: too long, a table in words has up to 1,048,576 bytes"
+# Tables with a wrong row, and what is said of each; one run for all.
+wrong_tables=() sentences=()
+faulty() { # WRONG ROW
+    wrong_tables+=("wrong table, $2")
+    printf '# line 1\r\n\n1 200 200\n%s\n201 60000 40\nx\n' "$2" >"wrong table, $2"
+    sentences+=("key: wrong table, $2: line 4: $1")
+}
+for word in x 01 00 -1 +1 1.5 1,000 0x1 1e3 '*' '\1' '"1"' '1;' 65536 99999999999999999999 18446744073709551617; do
+    faulty "'$word' is no number from 0 to 65,535 without leading zeros" "$word 200 200"
+    faulty "'$word' is no number from 0 to 65,535 without leading zeros" "1 $word 200"
+    faulty "'$word' is no number from 0 to 255 without leading zeros" "1 200 $word"
+done
+faulty "'256' is no number from 0 to 255 without leading zeros" "1 200 256"
+faulty "'x' is no number from 0 to 65,535 without leading zeros" "1 x 256 4"
+faulty "\$'\\357\\273\\2771' is no number from 0 to 65,535 without leading zeros" $'\357\273\2771 200 200' # Windows' mark
+faulty "\$'200\\r1' is no number from 0 to 255 without leading zeros" $'1 200 200\r1 300 1'
+for row in 1 "1 " "1 200" "1 200 # 200" "1 200 #200"; do faulty "a number is missing" "$row"; done
+for row in "1 200 200 4" "1 200 200 x" "1 200 200 01" "1 200 200 201 300 1"; do faulty "one too many" "$row"; done
+run "interval, wrong tables, each with its sentence" 1 key --interval 1 "${wrong_tables[@]}"
+prints_lines "${wrong_tables[@]}"; says_only "$(printf '%s\n' "${sentences[@]}")"
+run "interval, a wrong table alone, on standard input" 1 key --interval 200 - < <(printf '1 60000 77\n2'); prints /dev/null
+says_only "key: -: line 2: a number is missing"
+run "interval, wrong and missing tables among others" 1 key --interval 200 "wrong table, 1" "a table" none "a gap"
+prints_lines "wrong table, 1" "a table" "0 200 0" "a gap" "25 0 201"
+says_only "key: none: no such file
+key: wrong table, 1: line 4: a number is missing"
+printf '1 60000 77\n\0' >"zero byte"
+for file in "a file" "zero byte" "no list"; do
+    run "interval, $file" 1 key --interval 1 "$file"; prints /dev/null; says_only "key: $file: is no table in words, it has a control byte"
+done
+run "interval, a folder" 1 key --interval 1 .; prints /dev/null; says_only "key: .: is a folder"
+run "interval, a full device" 1 bash -c 'key --interval 1 "a table" >/dev/full'; says "a write failed"
+run "interval, a closed standard input" 1 bash -c 'key --interval 1 - <&-'; says_only "key: -: is closed"
+run "interval, a closed standard error" 0 bash -c 'key --interval 1 "a table" 2>&-'; prints_lines "0 200 0"
+run "interval, help behind it" 0 env PATH="$work/few" "$repository/key" --interval 1 --help; prints_part "--interval N TABLE"
+run "no --interval behind --" 1 key -- --interval; says_only "key: --interval: no such file"
+misused "--interval: the ranking table is missing" --interval 1000
+misused "--interval: the number of milliseconds is missing" "a table" --interval
+for number in '' 08 00 -1 +1 ' 1' 1. 0x1 $'1\n' 65536 100000 4294967297 --both "a table"; do
+    misused "--interval: '$number' is no number from 0 to 65,535 without leading zeros" --interval 1 --interval "$number" "a table"
+done
+misused "--both and --interval do not go together" --interval 0 --both "a table"
+misused "--both and --interval do not go together" --both --interval 1
+misused "--why and --interval do not go together" --interval 8 --why 8 "a table"
+misused "--shares and --interval do not go together" --interval 8 "a table" --shares
+misused "--shorten and --interval do not go together" --shorten 8 --interval 8 "a table"
+misused "no option --interval=8" --interval=8 "a table"
+printf '#!/bin/sh\necho 0\n' >"$repository/target/bin/ranking"
+run "interval, the program changed" 0 key --interval 1000 "a table"; prints_lines "0 120 0"; says "building it again"
+echo >>"$repository/target/bin/ranking"
+run "a changed ranking, not asked for" 0 key "a file"; prints "$work/k1.key"
+
 # Instead of NAME a program that runs it, with more behind that.
 replace() { # NAME MORE
     originals
@@ -325,6 +410,25 @@ for name in shorten file_to_list; do
     run "a $name that crashes after printing a shorter list" 1 key --shorten 8 "a question"
     says "the program $name ended with: .*status 139"
 done
+replace ranking '; echo "cannot be written" >&2'
+run "a ranking that says something" 1 key --interval 1 "a table"; says "^key: a table: the program ranking ended with: cannot be written$"
+replace ranking '; kill -SEGV $$'
+run "a ranking that crashes after printing" 1 key --interval 1 "a table"; says "the program ranking ended with: .*status 139"
+# One that prints the bytes that it gets: the number of rows, the rows and the intervals.
+printf '#!/bin/sh\nod -An -v -tu1 -w9999 | tr -s " "\n' >"$work/built/ranking"
+rm -rf "$repository/target"
+run "interval, the bytes" 0 key --interval 1000 --interval 65535 --interval 0 --interval 256 "loose table"
+prints_lines " 3 7 209 234 96 40 0 201 7 208 120 0 1 0 200 200 3 232 255 255 0 0 1 0"
+for rows in 0 1 64 65 254 255 256 257 512; do
+    seq "$rows" | sed 's/.*/& 1& 7/' >"$rows.rows"
+    echo "$rows.rows"
+    head -n 255 "$rows.rows" | awk -v rows=$((rows < 255 ? rows : 255)) 'BEGIN { printf " " rows }
+        { printf " %d %d %d %d %d", $1 / 256, $1 % 256, $2 / 256, $2 % 256, $3 } END { print " 2 1" }'
+done >"$work/bytes"
+run "interval, the bytes of many rows" 0 key --interval 513 {0,1,64,65,254,255,256,257,512}.rows; prints "$work/bytes"; says_nothing
+echo x >>512.rows
+run "interval, a wrong line behind 512 rows" 1 key --interval 513 512.rows; prints /dev/null
+says_only "key: 512.rows: line 513: 'x' is no number from 0 to 65,535 without leading zeros"
 replace shorten '; sleep 1.5'
 key --shorten 8 "a question" >/dev/null 2>&1 # builds it
 run "a shorten that takes longer than a second" 0 key --shorten 8 "a question"; prints_lines "${shorter[@]}"
@@ -360,7 +464,7 @@ run "after an interruption" 0 key "a file"; prints "$work/k1.key"
 
 # ./check: rt ci says the words given and ends with the status given; the outside tests end as told.
 ci() { printf '%s\n' "$2" >"$work/ci"; echo "$1" >"$work/ci.status"; } # STATUS WORDS
-names="sequences compare wakes reasons shares shorten words documents sentences command"
+names="sequences compare command wakes reasons shares shorten office_tables ranking words documents sentences"
 tests() { # [NAME of the one that fails]
     local one
     for one in $names; do echo 'echo "given: $*"' >"$repository/tests/$one.sh"; done
@@ -376,6 +480,7 @@ run "check, then key --both" 0 key --both "a file"; says_only "key: a file: both
 run "check, then key --why" 0 key --why 8 samples/k1; says_nothing
 run "check, then key --shares" 0 key --shares samples/k1; says_nothing
 run "check, then key --shorten" 0 key --shorten 8 "a question"; says_nothing
+run "check, then key --interval" 0 key --interval 1000 "a table"; says_nothing
 run "check, its tests and what they are given" 0 check 5 6
 {
     echo "rt: ok"
@@ -404,7 +509,7 @@ run "check without a tally" 1 check; ends_not_in '0 failed$'
 ci 0 "0 passed, 0 failed"
 run "check with nothing passed" 1 check; ends_not_in '0 failed$'
 ci 0 "7 passed, 0 failed"
-for name in key list_to_file plain_key reason file_to_list shares shorten; do
+for name in key list_to_file plain_key reason file_to_list shares shorten ranking; do
     originals
     rm "$work/built/$name" "$repository/target/bin/$name"
     run "check with $name missing" 1 check; ends_in "left no target/bin/$name\$"

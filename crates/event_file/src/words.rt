@@ -18,7 +18,7 @@ pub fn word(high: u8, low: u8) -> u16
 }
 
 // A byte; past the end 0.
-fn byte_at(file: &[u8], at: usize) -> u8
+pub fn byte_at(file: &[u8], at: usize) -> u8
     ensures { λ r. ⌜ r ≡ getD (now (file .entry)) at 0 ⌝ }
 {
     if at < file.len() {

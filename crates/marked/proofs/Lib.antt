@@ -3,3 +3,4 @@ pub mod MarkedSequences
 pub mod MarkedReasons
 pub mod MarkedShares
 pub mod MarkedShorten
+pub mod MarkedRankings

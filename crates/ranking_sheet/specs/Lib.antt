@@ -1,0 +1,2 @@
+-- What the program `ranking` reads and prints.
+pub mod Sheet

@@ -1,0 +1,43 @@
+-- The first of every row is tried.
+use Prim.Native.Nat.{_-_}
+use native.Mathlib.Omega.{arith}
+use Rattle.ranking_table.proofs.Passing.{none-passed}
+use Rattle.ranking_table.proofs.Trying.{Overlapping, no-overlap-yet, overlap-tried, overlap-found}
+use Rattle.ranking_table.proofs.faults.smallest_overlap.Statement.{statement}
+use Rattle.ranking_table.proofs.faults.smallest_overlap.Tie as tie
+
+abbrev Inv-loop : tie.InvT-loop
+Inv-loop n rows best₀ k₀ best k = Overlapping rows n k best
+
+abbrev μ-loop : tie.MeasureT-loop
+μ-loop n rows best₀ k₀ best k = n - k
+
+loop-holds : tie.Need-loop-holds Inv-loop μ-loop
+loop-holds c = no-overlap-yet (none-passed _ _ (c .good .0 .1 .0 .1) (c .pre .0)) (c .pre .1)
+
+mul-row : tie.Need-mul-row Inv-loop μ-loop
+mul-row c = omega (arith, c .before .loop .inv .passed .room)
+
+array-copy-out-row : tie.Need-array-copy-out-row Inv-loop μ-loop
+array-copy-out-row c = omega (arith, c .before .loop .inv .passed .room)
+
+better-overlap-requires : tie.Need-better-overlap-requires Inv-loop μ-loop
+better-overlap-requires c κs = c .before .before .loop .inv .passed .room
+
+add-k : tie.Need-add-k Inv-loop μ-loop
+add-k c = omega (arith, c .before .before .before .loop .inv .passed .room)
+
+loop-less : tie.Need-loop-less Inv-loop μ-loop
+loop-less c = omega arith
+
+loop-again : tie.Need-loop-again Inv-loop μ-loop
+loop-again c =
+    overlap-tried (c .before .before .before .loop .inv) (c .before .before .loop-test .taken) (c .better-overlap .ensures)
+
+returns : tie.Need-returns Inv-loop μ-loop
+returns c = overlap-found (c .before .loop .inv) (c .loop-test .left)
+
+pub smallest-overlap-spec : {M : Type 1} → statement M
+smallest-overlap-spec =
+    tie.close
+    (tie.spec Inv-loop μ-loop loop-holds mul-row array-copy-out-row better-overlap-requires add-k loop-less loop-again returns)
