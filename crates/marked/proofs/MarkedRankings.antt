@@ -1,5 +1,5 @@
--- Document 02, [10]: lookups in ranking tables, worked out by hand, as one table that every row meets. Proved by computation; a table that has
--- no overlap, for which all intervals are looked at, is judged once for all of its lookups.
+-- Document 02, [10]: lookups in ranking tables, worked out by hand, as one table that every row meets. Proved by computation; a table that
+-- has no overlap, for which all intervals are looked at, is judged once for all of its lookups.
 use Prim.Native.Nat.{ℕ, zero, suc}
 use mathlib.Core.Path.{_≡_, refl, ap, _∙_}
 use mathlib.Core.List.{List, [], _∷_, map}

@@ -15,7 +15,7 @@ use Rattle.text.proofs.Enough.{enough-for-one}
 use Rattle.ranking_table.specs.declared.Row.{Row}
 use Rattle.ranking_table.specs.declared.Answer.{Answer}
 use Rattle.ranking_table.specs.Ranking.{lookup}
-use Rattle.ranking_table.specs.Good.{rowAt, Outcome, too-many, bad-row, overlapping, gaping, outside, found}
+use Rattle.ranking_table.specs.Good.{rowAt, Judged, too-many, bad-row, overlapping, gaping, good, Outcome, bad-table, outside, found}
 use Rattle.ranking_table.proofs.Rankings.{lookup-true}
 use Rattle.ranking_sheet.specs.Sheet.{rowsFrom, rowsIn, intervalsAt, intervalsFrom, intervalsIn, inputRefusal}
 use Rattle.ranking_sheet.specs.Sheet.{answerLine, answerLines, rankingAfter, ranking}
@@ -27,11 +27,15 @@ record Small (a : Answer) : Type 0 where
   priority : a .priority < 256
   interval : a .interval ≤ 60000
 
+small-fault : {rows : List Row} {a : Answer} → Judged rows a → Small a
+small-fault (too-many h) = record { number = omega arith; priority = omega arith; interval = omega arith }
+small-fault (bad-row h) = record { number = omega arith; priority = omega arith; interval = omega arith }
+small-fault (overlapping j formed s) = record { number = omega arith; priority = omega arith; interval = s .interval .1 }
+small-fault (gaping j formed s apart) = record { number = omega arith; priority = omega arith; interval = s .interval .1 }
+small-fault (good g) = record { number = omega arith; priority = omega arith; interval = omega arith }
+
 small : {rows : List Row} {i : ℕ} {a : Answer} → ((k : ℕ) → rowAt rows k .priority < 256) → Outcome rows i a → Small a
-small f (too-many h) = record { number = omega arith; priority = omega arith; interval = omega arith }
-small f (bad-row h) = record { number = omega arith; priority = omega arith; interval = omega arith }
-small f (overlapping j formed s) = record { number = omega arith; priority = omega arith; interval = s .interval .1 }
-small f (gaping j formed s apart) = record { number = omega arith; priority = omega arith; interval = s .interval .1 }
+small f (bad-table j refused) = small-fault j
 small f (outside g h) = record { number = omega arith; priority = omega arith; interval = omega arith }
 small f (found g inside one) = record { number = omega arith; priority = f (one .row); interval = omega arith }
 

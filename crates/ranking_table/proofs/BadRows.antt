@@ -7,7 +7,8 @@ use mathlib.Core.Bool.{true, false, not, _||_}
 use lib.Dec.{leb, ltb}
 use lib.ListN.{length}
 use borrow.Author.Tests.{leb-true, le-leb, le-ltb, ltb-false, not-false}
-use Rattle.rules.proofs.Basics.Views.{clash, and-true-left, and-true-right, and-true-both, or-false-both, Either, first, second, or-true-cases}
+use Rattle.rules.proofs.Basics.Views.{clash, and-true-left, and-true-right, and-true-both}
+use Rattle.rules.proofs.Basics.Views.{or-false-both, Either, first, second, or-true-cases}
 use Rattle.ranking_table.specs.declared.Row.{Row}
 use Rattle.ranking_table.specs.Ranking.{inRange, badRow, anyBad, holding}
 use Rattle.ranking_table.specs.Good.{rowAt, Interval, Within, Bad}

@@ -19,7 +19,8 @@ use Rattle.ranking_table.proofs.Searching.{Candidate}
 
 -- where one row holds an interval only if it holds another, so do more rows that other
 module _ (i j : ℕ) (row : Row) (rows : List Row) where
-  pub both-more : (holds i row ≡ true → holds j row ≡ true) → holding rows i ≤ holding rows j → holding (row ∷ rows) i ≤ holding (row ∷ rows) j
+  pub both-more : (holds i row ≡ true → holds j row ≡ true) → holding rows i ≤ holding rows j
+      → holding (row ∷ rows) i ≤ holding (row ∷ rows) j
   unfolding holding
   both-more f le = by (two (holds i row)) (two (holds j row))
     where

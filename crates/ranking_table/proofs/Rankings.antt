@@ -1,6 +1,7 @@
--- THE THEOREMS of request [10]. `lookup-true`: every lookup in every table says what document 02 asks of it, by the rows that hold an
--- interval. `good-exactly`: the good tables are exactly those in which every interval is in exactly one row. `overlap-at-a-first` and
--- `gap-after-a-last`: where the interval of an overlap or a gap can be, which is why the cost grows with the rows alone.
+-- THE THEOREMS of request [10]. `fault-true` and `lookup-true`: what every table is judged to be, and what every lookup in it answers, is
+-- what document 02 asks, by the rows that hold an interval. `good-exactly`: the good tables are exactly those in which every interval is
+-- in exactly one row. `finds`: there a lookup finds its row. `overlap-at-a-first` and `gap-after-a-last`: where the interval of an overlap
+-- or a gap can be, which is why the cost grows with the rows alone.
 use Prim.Native.Nat.{ℕ, zero, suc, _+_, _≤_, _<_}
 use native.Mathlib.Omega.{arith}
 use mathlib.Core.Path.{_≡_, refl, sym}
@@ -14,10 +15,12 @@ use Rattle.rules.proofs.Basics.Views.{Two, yes-true, no-false, two, clash}
 use Rattle.ranking_table.specs.declared.Row.{Row}
 use Rattle.ranking_table.specs.declared.Answer.{Answer}
 use Rattle.ranking_table.specs.Ranking.{inRange, holds, holding, missing, inTwo, overlap, gap, anyBad}
-use Rattle.ranking_table.specs.Ranking.{refused, accepted, fault, answerBy, lookup}
-use Rattle.ranking_table.specs.Good.{rowAt, Interval, InOne, InTwo, Missing, Formed, Good, SmallestOf, Bad}
-use Rattle.ranking_table.specs.Good.{Outcome, too-many, bad-row, overlapping, gaping, outside, found}
-use Rattle.ranking_table.proofs.Counting.{Count, in-none, in-one, in-more, counted, missing-of, of-missing, two-of, of-two, not-two, priority-of}
+use Rattle.ranking_table.specs.Ranking.{accepted, fault, answerBy, lookup}
+use Rattle.ranking_table.specs.Good.{rowAt, Interval, InOne, InTwo, Missing, Formed, Good, SmallestOf}
+use Rattle.ranking_table.specs.Good.{Judged, too-many, bad-row, overlapping, gaping, good}
+use Rattle.ranking_table.specs.Good.{Outcome, bad-table, outside, found}
+use Rattle.ranking_table.proofs.Counting.{Count, in-none, in-one, in-more, counted, missing-of, of-missing, two-of, of-two}
+use Rattle.ranking_table.proofs.Counting.{not-two, priority-of}
 use Rattle.ranking_table.proofs.Searching.{Smallest, smallest-is, Candidate}
 use Rattle.ranking_table.proofs.Ends.{Has, firstOf, begins, follows, first-below, last-below}
 use Rattle.ranking_table.proofs.BadRows.{interval-of, of-interval, all-within, none-bad, none-at-0, bad-of}
@@ -73,7 +76,7 @@ module _ (rows : List Row) where
 
   -- the two tests that come first
   formed-of : length rows ≤ 64 → anyBad rows ≡ false → Formed rows
-  formed-of few good = record { few = few; within = all-within rows good }
+  formed-of few fine = record { few = few; within = all-within rows fine }
 
   -- no overlap and no gap
   good-of : Formed rows → 60000 < overlap rows → 60000 < gap rows → Good rows
@@ -81,45 +84,38 @@ module _ (rows : List Row) where
       record { formed = formed; once = λ i inside. in-one-row i (no-gap covered i inside) (no-overlap apart i inside) }
 
   -- what is wrong with a table
-  data Judged : Answer → Type 0 where
-    many : 64 < length rows → Judged (refused 23 0)
-    bad : Bad rows → Judged (refused 23 0)
-    overlaps : (j : ℕ) → Formed rows → SmallestOf (InTwo rows) j → Judged (refused 24 j)
-    gaps : (j : ℕ) → Formed rows → SmallestOf (Missing rows) j → ((k : ℕ) → Interval k → InTwo rows k → ⊥) → Judged (refused 25 j)
-    good : Good rows → Judged (accepted 0)
-
-  judged : Judged (fault rows)
-  judged = by-many (two (ltb 64 (length rows)))
+  pub fault-true : Judged rows (fault rows)
+  fault-true = by-many (two (ltb 64 (length rows)))
     where
       by-gap : (few : length rows ≤ 64) (fine : anyBad rows ≡ false) → 60000 < overlap rows → Two (leb (gap rows) 60000)
-          → Judged (fault rows)
+          → Judged rows (fault rows)
       by-gap few fine apart (yes-true h) =
           let inside = leb-true (gap rows) 60000 h in
-          rw (gap-fault rows few fine apart inside) (gaps (gap rows) (formed-of few fine) (smallest-gap inside) (no-overlap apart))
+          rw (gap-fault rows few fine apart inside) (gaping (gap rows) (formed-of few fine) (smallest-gap inside) (no-overlap apart))
       by-gap few fine apart (no-false h) =
           let covered = leb-false (gap rows) 60000 h in
           rw (no-fault rows few fine apart covered) (good (good-of (formed-of few fine) apart covered))
 
-      by-overlap : (few : length rows ≤ 64) (fine : anyBad rows ≡ false) → Two (leb (overlap rows) 60000) → Judged (fault rows)
+      by-overlap : (few : length rows ≤ 64) (fine : anyBad rows ≡ false) → Two (leb (overlap rows) 60000) → Judged rows (fault rows)
       by-overlap few fine (yes-true h) =
           let inside = leb-true (overlap rows) 60000 h in
-          rw (overlap-fault rows few fine inside) (overlaps (overlap rows) (formed-of few fine) (smallest-overlap inside))
+          rw (overlap-fault rows few fine inside) (overlapping (overlap rows) (formed-of few fine) (smallest-overlap inside))
       by-overlap few fine (no-false h) = by-gap few fine (leb-false (overlap rows) 60000 h) (two (leb (gap rows) 60000))
 
-      by-bad : (few : length rows ≤ 64) → Two (anyBad rows) → Judged (fault rows)
-      by-bad few (yes-true h) = rw (row-fault rows h) (bad (bad-of rows h))
+      by-bad : (few : length rows ≤ 64) → Two (anyBad rows) → Judged rows (fault rows)
+      by-bad few (yes-true h) = rw (row-fault rows h) (bad-row (bad-of rows h))
       by-bad few (no-false h) = by-overlap few h (two (leb (overlap rows) 60000))
 
-      by-many : Two (ltb 64 (length rows)) → Judged (fault rows)
-      by-many (yes-true h) = let more = ltb-true 64 (length rows) h in rw (many-fault rows more) (many more)
+      by-many : Two (ltb 64 (length rows)) → Judged rows (fault rows)
+      by-many (yes-true h) = let more = ltb-true 64 (length rows) h in rw (many-fault rows more) (too-many more)
       by-many (no-false h) = by-bad (ltb-false 64 (length rows) h) (two (anyBad rows))
 
   -- and what a lookup says then
-  answer-true : (i : ℕ) {a : Answer} → Judged a → Outcome rows i (answerBy a rows i)
-  answer-true i (many h) = too-many h
-  answer-true i (bad h) = bad-row h
-  answer-true i (overlaps j formed s) = overlapping j formed s
-  answer-true i (gaps j formed s apart) = gaping j formed s apart
+  answer-true : (i : ℕ) {a : Answer} → Judged rows a → Outcome rows i (answerBy a rows i)
+  answer-true i (too-many h) = bad-table (too-many h) (λ e. omega arith)
+  answer-true i (bad-row h) = bad-table (bad-row h) (λ e. omega arith)
+  answer-true i (overlapping j formed s) = bad-table (overlapping j formed s) (λ e. omega arith)
+  answer-true i (gaping j formed s apart) = bad-table (gaping j formed s apart) (λ e. omega arith)
   answer-true i (good g) = by (two (inRange i))
     where
       by : Two (inRange i) → Outcome rows i (answerBy (accepted 0) rows i)
@@ -131,24 +127,24 @@ module _ (rows : List Row) where
 
   pub lookup-true : (i : ℕ) → Outcome rows i (lookup rows i)
   unfolding lookup
-  lookup-true i = answer-true i judged
+  lookup-true i = answer-true i fault-true
 
   -- "The table is good only if every interval is in exactly one row."
   pub good-exactly : (fault rows .refusal ≡ 0 → Good rows) × (Good rows → fault rows ≡ accepted 0)
-  good-exactly = (only-if judged, if judged)
+  good-exactly = (only-if fault-true, if fault-true)
     where
-      only-if : {a : Answer} → Judged a → a .refusal ≡ 0 → Good rows
-      only-if (many h) e = absurd (omega arith)
-      only-if (bad h) e = absurd (omega arith)
-      only-if (overlaps j formed s) e = absurd (omega arith)
-      only-if (gaps j formed s apart) e = absurd (omega arith)
+      only-if : {a : Answer} → Judged rows a → a .refusal ≡ 0 → Good rows
+      only-if (too-many h) e = absurd (omega arith)
+      only-if (bad-row h) e = absurd (omega arith)
+      only-if (overlapping j formed s) e = absurd (omega arith)
+      only-if (gaping j formed s apart) e = absurd (omega arith)
       only-if (good g) e = g
 
-      if : {a : Answer} → Judged a → Good rows → a ≡ accepted 0
-      if (many h) g = absurd (omega (arith, g .formed .few))
-      if (bad b) g = absurd (b .not-within (g .formed .within (b .number) (b .listed)))
-      if (overlaps j formed s) g = absurd (not-two rows j (g .once j (s .interval)) (s .holds))
-      if (gaps j formed s apart) g = let one = g .once j (s .interval) in absurd (s .holds (one .row) (one .holds))
+      if : {a : Answer} → Judged rows a → Good rows → a ≡ accepted 0
+      if (too-many h) g = absurd (omega (arith, g .formed .few))
+      if (bad-row b) g = absurd (b .not-within (g .formed .within (b .number) (b .listed)))
+      if (overlapping j formed s) g = absurd (not-two rows j (g .once j (s .interval)) (s .holds))
+      if (gaping j formed s apart) g = let one = g .once j (s .interval) in absurd (s .holds (one .row) (one .holds))
       if (good _) g = refl
 
   -- a good table's lookup finds its row
@@ -180,5 +176,6 @@ module _ (rows : List Row) where
 
       by : Candidate (missing rows) (follows rows) (suc (length rows)) j → (j ≡ 1) ⊎ Has (λ row. row .last + 1) rows j
       by c =
-          let not-lower = s .smallest (follows rows (c .number)) (some-follow (c .number)) (missing-test (follows rows (c .number)) (c .takes)) in
-          from (c .number) (c .listed) (omega (arith, c .below, not-lower))
+          let k = c .number in
+          let not-lower = s .smallest (follows rows k) (some-follow k) (missing-test (follows rows k) (c .takes)) in
+          from k (c .listed) (omega (arith, c .below, not-lower))

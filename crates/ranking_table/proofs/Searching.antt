@@ -3,11 +3,11 @@
 use Prim.Native.Nat.{ℕ, zero, suc, _+_, _≤_, _<_}
 use native.Mathlib.Omega.{arith}
 use native.Mathlib.Nat.{eq-or-lt-of-le}
-use mathlib.Core.Path.{_≡_, sym, ap, _∙_}
+use mathlib.Core.Path.{_≡_, refl, sym, ap, _∙_}
 use mathlib.Core.Logic.{⊎-elim}
 use mathlib.Core.Bool.{Bool, true, false}
 use lib.Dec.{ltb}
-use borrow.Author.Tests.{ltb-true, ltb-false}
+use borrow.Author.Tests.{ltb-true, ltb-false, lt-ltb, le-ltb}
 use Rattle.rules.proofs.Basics.Views.{Two, yes-true, no-false, two, clash}
 use Rattle.ranking_table.specs.Ranking.{smallestFrom, smallest}
 use Rattle.ranking_table.specs.Good.{better}
@@ -59,6 +59,17 @@ module _ (test : ℕ → Bool) where
       by (yes-true e) _ = absurd (not-below s smallest-is (ltb-true r (smallest test) e))
       by (no-false e) (yes-true f) = absurd (not-below smallest-is s (ltb-true (smallest test) r f))
       by (no-false e) (no-false f) = omega (arith, ltb-false r (smallest test) e, ltb-false (smallest test) r f)
+
+-- the better of two, by the tests that say so
+module _ (test : ℕ → Bool) (best i : ℕ) where
+  pub better-taken : i < best → test i ≡ true → i ≡ better test best i
+  better-taken less e = rw (lt-ltb i best less, e) refl
+
+  pub better-left : i < best → test i ≡ false → best ≡ better test best i
+  better-left less e = rw (lt-ltb i best less, e) refl
+
+  pub better-above : best ≤ i → best ≡ better test best i
+  better-above above = rw (le-ltb i best above) refl
 
 -- the best of k candidates
 pub record Best (test : ℕ → Bool) (at : ℕ → ℕ) (k best : ℕ) : Type 0 where

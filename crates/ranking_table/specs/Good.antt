@@ -72,16 +72,22 @@ pub record Bad (rows : List Row) : Type 0 where
   pub listed : number < length rows
   pub not-within : Within (rowAt rows number) → ⊥
 
+-- all that a table can be judged to be, and what is true of its rows then
+pub data Judged (rows : List Row) : Answer → Type 0 where
+  -- "23, a row outside the range or with first above last, or more than 64 rows"
+  too-many : 64 < length rows → Judged rows (refused 23 0)
+  bad-row : Bad rows → Judged rows (refused 23 0)
+  -- "24, overlap": "the smallest interval in two rows or more"
+  overlapping : (j : ℕ) → Formed rows → SmallestOf (InTwo rows) j → Judged rows (refused 24 j)
+  -- "25, gap": "the smallest interval missing", where none is in two rows
+  gaping : (j : ℕ) → Formed rows → SmallestOf (Missing rows) j → ((k : ℕ) → Interval k → InTwo rows k → ⊥) → Judged rows (refused 25 j)
+  good : Good rows → Judged rows (accepted 0)
+
 -- all that a lookup can answer, and what is true of table and interval then
 pub data Outcome (rows : List Row) (i : ℕ) : Answer → Type 0 where
-  -- "23, a row outside the range or with first above last, or more than 64 rows"
-  too-many : 64 < length rows → Outcome rows i (refused 23 0)
-  bad-row : Bad rows → Outcome rows i (refused 23 0)
-  -- "24, overlap": "the smallest interval in two rows or more"
-  overlapping : (j : ℕ) → Formed rows → SmallestOf (InTwo rows) j → Outcome rows i (refused 24 j)
-  -- "25, gap": "the smallest interval missing", where none is in two rows
-  gaping : (j : ℕ) → Formed rows → SmallestOf (Missing rows) j → ((k : ℕ) → Interval k → InTwo rows k → ⊥) → Outcome rows i (refused 25 j)
-  -- "then an interval outside 1 to 60,000 with 23"
+  -- "A lookup first refuses a bad table with that table's number, .."
+  bad-table : {a : Answer} → Judged rows a → (a .refusal ≡ 0 → ⊥) → Outcome rows i a
+  -- ".. then an interval outside 1 to 60,000 with 23."
   outside : Good rows → (Interval i → ⊥) → Outcome rows i (refused 23 0)
   -- "the priority of the row that holds its interval, and interval 0"
   found : Good rows → Interval i → (one : InOne rows i) → Outcome rows i (accepted (rowAt rows (one .row) .priority))

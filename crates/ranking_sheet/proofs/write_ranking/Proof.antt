@@ -1,5 +1,5 @@
--- A refused input's line, or the lines of an accepted input, put at the front of a buffer that has room for every input's. Lending the array
--- as a slice brings its length.
+-- A refused input's line, or the lines of an accepted input, put at the front of a buffer that has room for every input's. Lending the
+-- array as a slice brings its length.
 use native.Mathlib.Omega.{arith}
 use mathlib.Core.Path.{sym, _∙_}
 use denote.Ref.{now}

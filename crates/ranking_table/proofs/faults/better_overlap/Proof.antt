@@ -1,7 +1,10 @@
--- Two tests.
-use mathlib.Core.Path.{refl, sym}
+-- Below the best, and in two rows; below it, and not; not below it.
+use native.Mathlib.Omega.{arith}
+use lib.ListN.{take}
 use borrow.Author.Needs.{needs}
-use borrow.Author.Tests.{lt-ltb, le-ltb, le-leb, lt-leb}
+use borrow.Author.Tests.{le-leb, lt-leb}
+use Rattle.ranking_table.specs.Ranking.{holding, inTwo}
+use Rattle.ranking_table.proofs.Searching.{better-taken, better-left, better-above}
 use Rattle.ranking_table.proofs.faults.better_overlap.Statement.{statement}
 use Rattle.ranking_table.proofs.faults.better_overlap.Tie as tie
 
@@ -10,18 +13,22 @@ count-holding-requires c κs = search needs
 
 returns : tie.Need-returns
 returns c =
-    let args = c .before .before .before .args in
-    rw (lt-ltb (args .i) (args .best) (c .before .before .if1 .taken), sym (c .before .count-holding .ensures), le-leb 2 _ (c .if2 .taken))
-    refl
+    let counted = c .before in
+    let args = counted .before .before .args in
+    better-taken (inTwo (take (args .n) (args .rows))) (args .best) (args .i) (counted .before .if1 .taken)
+    (le-leb 2 (holding (take (args .n) (args .rows)) (args .i)) (omega (arith, counted .count-holding .ensures, c .if2 .taken)))
 
 returns-2 : tie.Need-returns-2
 returns-2 c =
-    let args = c .before .before .before .args in
-    rw (lt-ltb (args .i) (args .best) (c .before .before .if1 .taken), sym (c .before .count-holding .ensures), lt-leb 2 _ (c .if2 .left))
-    refl
+    let counted = c .before in
+    let args = counted .before .before .args in
+    better-left (inTwo (take (args .n) (args .rows))) (args .best) (args .i) (counted .before .if1 .taken)
+    (lt-leb 2 (holding (take (args .n) (args .rows)) (args .i)) (omega (arith, counted .count-holding .ensures, c .if2 .left)))
 
 returns-3 : tie.Need-returns-3
-returns-3 c = let args = c .before .args in rw (le-ltb (args .i) (args .best) (c .if1 .left)) refl
+returns-3 c =
+    let args = c .before .args in
+    better-above (inTwo (take (args .n) (args .rows))) (args .best) (args .i) (c .if1 .left)
 
 pub better-overlap-spec : {M : Type 1} → statement M
 better-overlap-spec = tie.close (tie.spec count-holding-requires returns returns-2 returns-3)
