@@ -20,12 +20,6 @@ loop-holds c =
     let start = c .before in
     gap-at-1 (none-passed _ _ (start .good .0 .1 .0 .1) (start .pre .0)) (start .pre .1) (c .better-gap .ensures)
 
-mul-row : tie.Need-mul-row Inv-loop μ-loop
-mul-row c = omega (arith, c .before .loop .inv .passed .room)
-
-array-copy-out-row : tie.Need-array-copy-out-row Inv-loop μ-loop
-array-copy-out-row c = omega (arith, c .before .loop .inv .passed .room)
-
 add-better-gap : tie.Need-add-better-gap Inv-loop μ-loop
 add-better-gap c =
     let inv = c .before .before .before .loop .inv in
@@ -33,12 +27,6 @@ add-better-gap c =
 
 better-gap-requires-2 : tie.Need-better-gap-requires-2 Inv-loop μ-loop
 better-gap-requires-2 c κs = c .before .before .before .loop .inv .passed .room
-
-add-k : tie.Need-add-k Inv-loop μ-loop
-add-k c = omega (arith, c .before .before .before .before .loop .inv .passed .room)
-
-loop-less : tie.Need-loop-less Inv-loop μ-loop
-loop-less c = omega arith
 
 loop-again : tie.Need-loop-again Inv-loop μ-loop
 loop-again c =
@@ -50,5 +38,9 @@ returns c = gap-found (c .before .loop .inv) (c .loop-test .left)
 pub smallest-gap-spec : {M : Type 1} → statement M
 smallest-gap-spec =
     tie.close
-    (tie.spec Inv-loop μ-loop better-gap-requires loop-holds mul-row array-copy-out-row add-better-gap better-gap-requires-2 add-k
-    loop-less loop-again returns)
+    (tie.spec Inv-loop μ-loop better-gap-requires loop-holds
+    (λ c. omega (arith, c .before .loop .inv .passed .room))
+    (λ c. omega (arith, c .before .loop .inv .passed .room))  -- the row is in the array
+    add-better-gap better-gap-requires-2
+    (λ c. omega (arith, c .before .before .before .before .loop .inv .passed .room))  -- and the next number fits
+    (λ c. omega arith) loop-again returns)

@@ -15,20 +15,8 @@ abbrev μ-loop : tie.MeasureT-loop
 loop-holds : tie.Need-loop-holds Inv-loop μ-loop
 loop-holds c = no-overlap-yet (none-passed _ _ (c .good .0 .1 .0 .1) (c .pre .0)) (c .pre .1)
 
-mul-row : tie.Need-mul-row Inv-loop μ-loop
-mul-row c = omega (arith, c .before .loop .inv .passed .room)
-
-array-copy-out-row : tie.Need-array-copy-out-row Inv-loop μ-loop
-array-copy-out-row c = omega (arith, c .before .loop .inv .passed .room)
-
 better-overlap-requires : tie.Need-better-overlap-requires Inv-loop μ-loop
 better-overlap-requires c κs = c .before .before .loop .inv .passed .room
-
-add-k : tie.Need-add-k Inv-loop μ-loop
-add-k c = omega (arith, c .before .before .before .loop .inv .passed .room)
-
-loop-less : tie.Need-loop-less Inv-loop μ-loop
-loop-less c = omega arith
 
 loop-again : tie.Need-loop-again Inv-loop μ-loop
 loop-again c =
@@ -40,4 +28,9 @@ returns c = overlap-found (c .before .loop .inv) (c .loop-test .left)
 pub smallest-overlap-spec : {M : Type 1} → statement M
 smallest-overlap-spec =
     tie.close
-    (tie.spec Inv-loop μ-loop loop-holds mul-row array-copy-out-row better-overlap-requires add-k loop-less loop-again returns)
+    (tie.spec Inv-loop μ-loop loop-holds
+    (λ c. omega (arith, c .before .loop .inv .passed .room))
+    (λ c. omega (arith, c .before .loop .inv .passed .room))  -- the row is in the array
+    better-overlap-requires
+    (λ c. omega (arith, c .before .before .before .loop .inv .passed .room))  -- and the next number fits
+    (λ c. omega arith) loop-again returns)

@@ -15,30 +15,15 @@ abbrev μ-loop : tie.MeasureT-loop
 loop-holds : tie.Need-loop-holds Inv-loop μ-loop
 loop-holds c = count-none _ (none-passed _ _ (c .good .0 .1 .0 .1) (c .pre))
 
-mul-row : tie.Need-mul-row Inv-loop μ-loop
-mul-row c = omega (arith, c .before .loop .inv .passed .room)
-
-array-copy-out-row : tie.Need-array-copy-out-row Inv-loop μ-loop
-array-copy-out-row c = omega (arith, c .before .loop .inv .passed .room)
-
-add-k : tie.Need-add-k Inv-loop μ-loop
-add-k c = omega (arith, c .before .before .loop .inv .passed .room)
-
 add-count : tie.Need-add-count Inv-loop μ-loop
 add-count c =
     let inv = c .before .before .before .before .loop .inv in
     omega (arith, inv .few, inv .passed .inside, inv .passed .room)
 
-loop-less : tie.Need-loop-less Inv-loop μ-loop
-loop-less c = omega arith
-
 loop-again : tie.Need-loop-again Inv-loop μ-loop
 loop-again c =
     count-held (c .before .before .before .before .loop .inv) (c .before .before .before .loop-test .taken)
     (sym (c .before .is-held .ensures) ∙ c .if1 .taken)
-
-loop-less-2 : tie.Need-loop-less-2 Inv-loop μ-loop
-loop-less-2 c = omega arith
 
 loop-again-2 : tie.Need-loop-again-2 Inv-loop μ-loop
 loop-again-2 c =
@@ -51,5 +36,8 @@ returns c = count-all (c .before .loop .inv) (c .loop-test .left)
 pub count-holding-spec : {M : Type 1} → statement M
 count-holding-spec =
     tie.close
-    (tie.spec Inv-loop μ-loop loop-holds mul-row array-copy-out-row add-k (λ _ _. tt) add-count loop-less loop-again loop-less-2
-    loop-again-2 returns)
+    (tie.spec Inv-loop μ-loop loop-holds
+    (λ c. omega (arith, c .before .loop .inv .passed .room))
+    (λ c. omega (arith, c .before .loop .inv .passed .room))  -- the row is in the array
+    (λ c. omega (arith, c .before .before .loop .inv .passed .room))  -- and the next number fits
+    (λ _ _. tt) add-count (λ c. omega arith) loop-again (λ c. omega arith) loop-again-2 returns)

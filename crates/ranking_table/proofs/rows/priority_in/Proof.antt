@@ -21,22 +21,10 @@ abbrev μ-loop : tie.MeasureT-loop
 loop-holds : tie.Need-loop-holds Inv-loop μ-loop
 loop-holds c = open-none (priority _) (none-passed _ _ (c .good .0 .1 .0 .1) (c .pre))
 
-mul-row : tie.Need-mul-row Inv-loop μ-loop
-mul-row c = omega (arith, c .before .loop .inv .passed .room)
-
-array-copy-out-row : tie.Need-array-copy-out-row Inv-loop μ-loop
-array-copy-out-row c = omega (arith, c .before .loop .inv .passed .room)
-
-add-k : tie.Need-add-k Inv-loop μ-loop
-add-k c = omega (arith, c .before .before .loop .inv .passed .room)
-
 returns : tie.Need-returns Inv-loop μ-loop
 returns c =
     settled (priority _) (c .before .before .before .before .loop .inv) (c .before .before .before .loop-test .taken)
     (priority-here _ _ (sym (c .before .is-held .ensures) ∙ c .if1 .taken))
-
-loop-less : tie.Need-loop-less Inv-loop μ-loop
-loop-less c = omega arith
 
 loop-again : tie.Need-loop-again Inv-loop μ-loop
 loop-again c =
@@ -50,4 +38,8 @@ returns-2 c = open-last (priority _) (c .before .loop .inv) (c .loop-test .left)
 pub priority-in-spec : {M : Type 1} → statement M
 priority-in-spec =
     tie.close
-    (tie.spec Inv-loop μ-loop loop-holds mul-row array-copy-out-row add-k (λ _ _. tt) returns loop-less loop-again returns-2)
+    (tie.spec Inv-loop μ-loop loop-holds
+    (λ c. omega (arith, c .before .loop .inv .passed .room))
+    (λ c. omega (arith, c .before .loop .inv .passed .room))  -- the row is in the array
+    (λ c. omega (arith, c .before .before .loop .inv .passed .room))  -- and the next number fits
+    (λ _ _. tt) returns (λ c. omega arith) loop-again returns-2)
