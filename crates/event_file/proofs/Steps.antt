@@ -9,7 +9,7 @@ use mathlib.Core.Option.{some}
 use types.Run.{OneOf}
 use denote.Enum.Declared.{tagOf}
 use lib.Dec.{ltb}
-use lib.ListN.{length, drop, drop-of-length-le}
+use lib.ListN.{length, drop-of-length-le}
 use borrow.Author.Tests.{ltb-true, ltb-false}
 use Rattle.rules.specs.declared.Event.{Event}
 use Rattle.rules.specs.EventFile.{eventsAfter, fileRefusal, eventsOf, event, end, bad, Stepped, stepped}
@@ -20,13 +20,8 @@ use Rattle.rules.proofs.Files.Stepping.{ahead, stepped-end}
 use Rattle.event_file.specs.declared.reader.Found.{Found}
 use Rattle.event_file.specs.declared.reader.Found.the-variants.{Record, End, Bad}
 use Rattle.event_file.specs.Answers.{shownFound}
+use Rattle.event_file.specs.Left.{Left}
 use Rattle.event_file.proofs.reader.Found.{the-type}
-
--- from the offset on the file reads as these events
-pub record Left (bytes : List ℕ) (offset : ℕ) (events : List Event) : Type 0 where
-  pub reads : eventsAfter 0 (drop offset bytes) ≡ some events
-  pub low : 5 ≤ offset
-  pub inside : offset ≤ length bytes
 
 -- before the first event of an accepted file
 pub all-left : (bytes : List ℕ) → fileRefusal bytes ≡ 0 → Left bytes 5 (eventsOf bytes)

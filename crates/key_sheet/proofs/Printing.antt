@@ -23,7 +23,7 @@ use Rattle.dispatcher.specs.Promise.{Answers}
 use Rattle.replay.proofs.Turns.{Ahead, begins, answerOf, goes-on, ended}
 use Rattle.text.specs.Put.{Put}
 use Rattle.text.proofs.Puts.{put-none, _then_, reading}
-use Rattle.key_sheet.specs.Line.{lineBytes}
+use Rattle.text.specs.Line.{lineBytes}
 
 -- the buffer was `before`; the next event is read at `offset`, has this number and goes to the machine m; its line goes to `at`
 pub record Going (file before now : List ℕ) (at offset number : ℕ) (m : Machine) : Type 0 where

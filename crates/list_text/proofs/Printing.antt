@@ -13,7 +13,8 @@ use Rattle.rules.specs.Key.{bytes, decimal}
 use Rattle.event_file.specs.declared.reader.Found.{Found}
 use Rattle.event_file.specs.Answers.{shownFound}
 use Rattle.event_file.proofs.reader.Found.{the-type}
-use Rattle.event_file.proofs.Steps.{Left, all-left, first, none-left}
+use Rattle.event_file.specs.Left.{Left}
+use Rattle.event_file.proofs.Steps.{all-left, first, none-left}
 use Rattle.text.specs.Put.{Put}
 use Rattle.text.proofs.Puts.{put-none, _then_, reading}
 use Rattle.list_text.specs.Writing.{eventWords, textOf}

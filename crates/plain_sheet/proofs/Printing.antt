@@ -19,7 +19,8 @@ use Rattle.rules.proofs.WithoutPlaces.{OfSound, of-empty}
 use Rattle.event_file.specs.declared.reader.Found.{Found}
 use Rattle.event_file.specs.Answers.{shownFound}
 use Rattle.event_file.proofs.reader.Found.{the-type}
-use Rattle.event_file.proofs.Steps.{Left, all-left, first, none-left}
+use Rattle.event_file.specs.Left.{Left}
+use Rattle.event_file.proofs.Steps.{all-left, first, none-left}
 use Rattle.plain_engine.specs.declared.PlainMachine.{PlainMachine}
 use Rattle.plain_engine.specs.declared.Answered.{Answered}
 use Rattle.plain_engine.specs.Shown.{plainShown, emptyMachine}

@@ -21,7 +21,8 @@ use Rattle.rules.proofs.Files.Stepping.{ahead}
 use Rattle.event_file.specs.declared.reader.Found.{Found}
 use Rattle.event_file.specs.Answers.{shownFound}
 use Rattle.event_file.proofs.reader.Found.{the-type}
-use Rattle.event_file.proofs.Steps.{Left, all-left, first, none-left}
+use Rattle.event_file.specs.Left.{Left}
+use Rattle.event_file.proofs.Steps.{all-left, first, none-left}
 use Rattle.dispatcher.specs.declared.Machine.{Machine}
 use Rattle.dispatcher.specs.declared.Answered.{Answered}
 use Rattle.dispatcher.specs.Shown.{shown, stored, soundMachine, emptyMachine}

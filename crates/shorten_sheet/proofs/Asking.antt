@@ -20,7 +20,8 @@ use Rattle.event_file.proofs.reader.Found.{the-type}
 use Rattle.dispatcher.specs.declared.Machine.{Machine}
 use Rattle.dispatcher.specs.declared.Answered.{Answered}
 use Rattle.dispatcher.specs.Shown.{shown, soundMachine}
-use Rattle.shorten_sheet.specs.Standing.{Stand, eventsAt}
+use Rattle.event_file.specs.Left.{eventsAt}
+use Rattle.shorten_sheet.specs.Standing.{Stand}
 use Rattle.shorten_sheet.specs.Promises.{Asks}
 use Rattle.shorten_sheet.proofs.Standing.{none-stands}
 use Rattle.shorten_sheet.proofs.Going.{Along, begin, Turn, Onward, onward}

@@ -21,7 +21,8 @@ use Rattle.dispatcher.specs.Shown.{shown, soundMachine}
 use Rattle.dispatcher.specs.Promise.{Answers}
 use Rattle.dispatcher.proofs.Runs.{dispatched-sound}
 use Rattle.replay.proofs.Turns.{turn-answer}
-use Rattle.shorten_sheet.specs.Standing.{Stand, eventsAt}
+use Rattle.event_file.specs.Left.{eventsAt}
+use Rattle.shorten_sheet.specs.Standing.{Stand}
 use Rattle.shorten_sheet.specs.Promises.{Reaches}
 use Rattle.shorten_sheet.proofs.Standing.{no-events, first-stands, stand-size}
 

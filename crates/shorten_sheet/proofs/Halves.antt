@@ -10,7 +10,8 @@ use Rattle.rules.specs.declared.Event.{Event}
 use Rattle.rules.specs.State.{State}
 use Rattle.rules.specs.EventFile.{recordsOf}
 use Rattle.rules.proofs.Files.Records.{records-length}
-use Rattle.shorten_sheet.specs.Standing.{Stand, Apart, eventsAt}
+use Rattle.event_file.specs.Left.{eventsAt}
+use Rattle.shorten_sheet.specs.Standing.{Stand, Apart}
 use Rattle.shorten_sheet.specs.Promises.{Reaches}
 use Rattle.shorten_sheet.specs.declared.reach.Reached.{Reached}
 use Rattle.shorten_sheet.proofs.Standing.{stand-size, stand-front, stand-rear}

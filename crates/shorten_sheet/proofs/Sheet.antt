@@ -16,7 +16,8 @@ use Rattle.rules.proofs.Files.Inverse.{as-written}
 use Rattle.text.specs.Put.{Put}
 use Rattle.text.proofs.Puts.{at-front, keeps}
 use Rattle.text.proofs.Refused.{refused-line}
-use Rattle.shorten_sheet.specs.Standing.{Stand, eventsAt}
+use Rattle.event_file.specs.Left.{eventsAt}
+use Rattle.shorten_sheet.specs.Standing.{Stand}
 use Rattle.shorten_sheet.specs.Promises.{Rests}
 use Rattle.shorten_sheet.specs.declared.rounds.Rest.{Rest}
 use Rattle.shorten_sheet.proofs.Standing.{events-at, stand-read, stand-size, drop-take}

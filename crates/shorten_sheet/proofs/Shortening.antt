@@ -17,7 +17,8 @@ use Rattle.rules.proofs.Shortening.Repeating.{again as pass-again, cut-off, las
 use Rattle.rules.proofs.Shortening.Shorter.{part-records}
 use Rattle.dispatcher.specs.declared.Machine.{Machine}
 use Rattle.dispatcher.specs.Shown.{shown, emptyMachine}
-use Rattle.shorten_sheet.specs.Standing.{Stand, Apart, eventsAt}
+use Rattle.event_file.specs.Left.{eventsAt}
+use Rattle.shorten_sheet.specs.Standing.{Stand, Apart}
 use Rattle.shorten_sheet.specs.Promises.{Asks, FirstAsked, Keeps, Rests, triedFrom}
 use Rattle.shorten_sheet.specs.declared.ask.Asked.{Asked}
 use Rattle.shorten_sheet.proofs.Standing.{events-at, stand-read, stand-size, stand-front, stand-rear, cut-within}

@@ -18,8 +18,10 @@ use Rattle.rules.proofs.Files.Stepping.{ahead}
 use Rattle.event_file.specs.declared.reader.Found.{Found}
 use Rattle.event_file.specs.Answers.{shownFound}
 use Rattle.event_file.proofs.reader.Found.{the-type}
-use Rattle.event_file.proofs.Steps.{Left, first, none-left}
-use Rattle.shorten_sheet.specs.Standing.{eventsAt, Stand}
+use Rattle.event_file.specs.Left.{Left}
+use Rattle.event_file.proofs.Steps.{first, none-left}
+use Rattle.event_file.specs.Left.{eventsAt}
+use Rattle.shorten_sheet.specs.Standing.{Stand}
 
 -- no record, no event
 pub no-events : (es : List Event) → length (recordsOf es) ≡ 0 → es ≡ []

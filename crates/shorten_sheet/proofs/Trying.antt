@@ -14,7 +14,8 @@ use Rattle.rules.specs.EventFile.{recordsOf}
 use Rattle.rules.specs.Shorten.{refusedFrom}
 use Rattle.rules.proofs.Files.Appending.{recordsOf-append}
 use Rattle.dispatcher.specs.Shown.{shown}
-use Rattle.shorten_sheet.specs.Standing.{Stand, Apart, eventsAt}
+use Rattle.event_file.specs.Left.{eventsAt}
+use Rattle.shorten_sheet.specs.Standing.{Stand, Apart}
 use Rattle.shorten_sheet.specs.Promises.{Reaches, Moved, Keeps, triedFrom}
 use Rattle.shorten_sheet.specs.declared.reach.Reached.{Reached}
 use Rattle.shorten_sheet.proofs.Standing.{no-events, events-at, stand-read}

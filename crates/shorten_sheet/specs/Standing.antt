@@ -4,13 +4,10 @@ use mathlib.Core.Path.{_≡_}
 use mathlib.Core.List.{List}
 use lib.ListN.{length, take, drop}
 use Rattle.rules.specs.declared.Event.{Event}
-use Rattle.rules.specs.EventFile.{recordsOf, eventsAfter, orNone}
+use Rattle.rules.specs.EventFile.{recordsOf}
+use Rattle.event_file.specs.Left.{eventsAt}
 
--- the events whose records stand from a place on, up to the end
-abbrev pub eventsAt : ℕ → List ℕ → List Event
-eventsAt at bytes = orNone (eventsAfter 0 (drop at bytes))
-
--- they are these, and nothing else stands there
+-- the records of these events, and nothing else, stand from a place on
 pub record Stand (bytes : List ℕ) (at : ℕ) (es : List Event) : Type 0 where
   pub low : 5 ≤ at
   pub inside : at ≤ length bytes

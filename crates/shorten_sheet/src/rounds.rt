@@ -2,7 +2,8 @@
 ghost use mathlib.Core.Path.{_≡_};
 ghost use mathlib.Core.Bool.{true};
 ghost use Rattle.rules.specs.Shorten.{refusedIn, shortened};
-ghost use Rattle.shorten_sheet.specs.Standing.{Stand, eventsAt};
+ghost use Rattle.event_file.specs.Left.{eventsAt};
+ghost use Rattle.shorten_sheet.specs.Standing.{Stand};
 ghost use Rattle.shorten_sheet.specs.Promises.{Rests};
 use crate::ask::ask;
 use crate::parts::try_part;

@@ -35,6 +35,9 @@ four-long = digits-most 3
 pub five-long : (n : ℕ) → n < 100000 → length (decimal n) ≤ 5
 five-long = digits-most 4
 
+pub eight-long : (n : ℕ) → n < 100000000 → length (decimal n) ≤ 8
+eight-long = digits-most 7
+
 pub ten-long : (n : ℕ) → n < 10000000000 → length (decimal n) ≤ 10
 ten-long = digits-most 9
 

@@ -1,2 +1,3 @@
--- What putting text into a lent buffer means.
+-- What a function that puts text promises, and a line of the key by its columns.
 pub mod Put
+pub mod Line

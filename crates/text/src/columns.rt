@@ -1,6 +1,7 @@
 // The columns of the key's lines.
 ghost use mathlib.Core.List.{_++_};
 ghost use Rattle.rules.specs.Key.{bytes, decimal, verdictWord, runningColumns, columns};
+ghost use Rattle.text.specs.Line.{lineBytes};
 ghost use Rattle.text.specs.Put.{Put};
 use crate::put_byte;
 use crate::put_bytes;
@@ -52,4 +53,21 @@ pub fn put_columns(out: &mut [u8], at: usize, number: u64, refusal: u8, running:
     let first = put_byte(out, space, b' ');
     let second = put_column(out, first, refusal as u64);
     put_running(out, second, running)
+}
+
+// A whole line of the key: its columns, "links followed; single spaces, a line feed".
+pub fn put_key_line(
+    out: &mut [u8],
+    at: usize,
+    number: u64,
+    refusal: u8,
+    running: Running,
+    links: u64,
+) -> usize
+    ensures { λ r. ⌜ Put (now (out .entry)) (now (out .exit)) at r (lineBytes number refusal running links) ⌝ }
+{
+    let space = put_columns(out, at, number, refusal, running);
+    let last = put_byte(out, space, b' ');
+    let end = put_decimal(out, last, links);
+    put_byte(out, end, b'\n')
 }

@@ -13,6 +13,7 @@ mod head;
 
 pub use columns::put_column;
 pub use columns::put_columns;
+pub use columns::put_key_line;
 pub use head::put_head;
 pub use head::put_two;
 pub use head::put_word;

@@ -98,7 +98,7 @@ body-good [] bs = tt
 body-good (kind ∷ l) bs = kind-good kind l (λ i. bs (suc i))
 
 -- parts of a byte string are byte strings
-bytes-take : (n : ℕ) (l : List ℕ) → Bytes l → Bytes (take n l)
+pub bytes-take : (n : ℕ) (l : List ℕ) → Bytes l → Bytes (take n l)
 bytes-take zero l bs i = omega arith
 bytes-take (suc n) [] bs i = omega arith
 bytes-take (suc n) (x ∷ xs) bs zero = bs 0

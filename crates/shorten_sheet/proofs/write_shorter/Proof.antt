@@ -12,7 +12,7 @@ use Rattle.dispatcher.specs.declared.Machine.{Machine}
 use Rattle.dispatcher.specs.Shown.{shown, soundMachine}
 use Rattle.dispatcher.proofs.Runs.{empty-machine-sound}
 use Rattle.text.proofs.Puts.{at-front, reading}
-use Rattle.shorten_sheet.specs.Standing.{eventsAt}
+use Rattle.event_file.specs.Left.{eventsAt}
 use Rattle.shorten_sheet.proofs.Room.{shorter-fits}
 use Rattle.shorten_sheet.proofs.Sheet.{fileBehind, file-narrow, number-and-file, file-read, file-events}
 use Rattle.shorten_sheet.proofs.Sheet.{no-input, refused-shorter, accepted-shorter}

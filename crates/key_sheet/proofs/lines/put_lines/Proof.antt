@@ -35,9 +35,12 @@ returns c = let read = c .before in done (read .before .loop .inv) (read .step .
 dispatch-requires : tie.Need-dispatch-requires Inv-loop μ-loop
 dispatch-requires c κs = c .before .before .before .before .loop .inv .ahead .sound
 
+cast-put-key-line : tie.Need-cast-put-key-line Inv-loop μ-loop
+cast-put-key-line c = search needs
+
 add-number : tie.Need-add-number Inv-loop μ-loop
 add-number c =
-    let given = c .before .before .before .before .before in
+    let given = c .before .before .before .before .before .before in
     let told = given .before .before in
     let read = told .before .before in
     let going = read .before .loop .inv in
@@ -47,7 +50,7 @@ add-number c =
 
 loop-less : tie.Need-loop-less Inv-loop μ-loop
 loop-less c =
-    let given = c .before .before .before .before .before in
+    let given = c .before .before .before .before .before .before in
     let told = given .before .before in
     let read = told .before .before in
     let going = read .before .loop .inv in
@@ -56,15 +59,15 @@ loop-less c =
 
 loop-again : tie.Need-loop-again Inv-loop μ-loop
 loop-again c =
-    let given = c .before .before .before .before .before in
+    let given = c .before .before .before .before .before .before in
     let told = given .before .before in
     let read = told .before .before in
     let going = read .before .loop .inv in
     let found = sym (ap shownFound (told .found .given .1)) ∙ read .step .ensures .0 in
-    printed going found (read .step .ensures .1) (given .dispatch .ensures) (c .before .before .put-line .ensures)
+    printed going found (read .step .ensures .1) (given .dispatch .ensures) (c .before .before .put-key-line .ensures)
 
 pub put-lines-spec : {M : Type 1} → statement M
 put-lines-spec =
     tie.close
-    (tie.spec Inv-loop μ-loop (λ _ _. tt) loop-holds (λ _ _. tt) enum-known-found same-length returns dispatch-requires (λ _ _. tt)
-    add-number loop-less loop-again)
+    (tie.spec Inv-loop μ-loop (λ _ _. tt) loop-holds (λ _ _. tt) enum-known-found same-length returns dispatch-requires
+    cast-put-key-line (λ _ _. tt) add-number loop-less loop-again)

@@ -7,7 +7,7 @@ use denote.Ref.{now}
 use Rattle.rules.specs.EventFile.{event, stepped}
 use Rattle.event_file.specs.Answers.{shownFound}
 use Rattle.dispatcher.specs.Shown.{shown}
-use Rattle.shorten_sheet.specs.Standing.{eventsAt}
+use Rattle.event_file.specs.Left.{eventsAt}
 use Rattle.shorten_sheet.proofs.Standing.{none-stands}
 use Rattle.shorten_sheet.proofs.Going.{Along, begin, Turn, onward, within, reaches, found-before-end}
 use borrow.Author.Needs.{needs}

@@ -9,7 +9,7 @@ use denote.Ref.{now}
 use Rattle.rules.specs.Shorten.{shortened}
 use Rattle.dispatcher.specs.Shown.{soundMachine}
 use Rattle.dispatcher.proofs.Runs.{empty-machine-sound}
-use Rattle.shorten_sheet.specs.Standing.{eventsAt}
+use Rattle.event_file.specs.Left.{eventsAt}
 use Rattle.shorten_sheet.proofs.Shortening.{Round, all-events, round-read, part-inside, round-apart, Done, done}
 use Rattle.shorten_sheet.proofs.rounds.shorten.Statement.{statement}
 use Rattle.shorten_sheet.proofs.rounds.shorten.Tie as tie

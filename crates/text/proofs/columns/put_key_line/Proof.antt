@@ -1,10 +1,10 @@
 -- The columns, a space, the links and the line feed, one after the other.
 use Rattle.rules.specs.Key.{bytes}
 use Rattle.text.proofs.Puts.{_then_}
-use Rattle.key_sheet.specs.Line.{lineBytes}
+use Rattle.text.specs.Line.{lineBytes}
 use borrow.Author.Needs.{needs}
-use Rattle.key_sheet.proofs.lines.put_line.Statement.{statement}
-use Rattle.key_sheet.proofs.lines.put_line.Tie as tie
+use Rattle.text.proofs.columns.put_key_line.Statement.{statement}
+use Rattle.text.proofs.columns.put_key_line.Tie as tie
 
 same-length : tie.Need-same-length
 same-length c = search needs
@@ -18,5 +18,5 @@ returns c =
     let columns = space .before .before .before .before in
     columns .put-columns .ensures then space .put-byte .ensures then links .put-decimal .ensures then feed .put-byte2 .ensures
 
-pub put-line-spec : {M : Type 1} → statement M
-put-line-spec = tie.close (tie.spec (λ _ _. tt) (λ _ _. tt) (λ _ _. tt) (λ _ _. tt) same-length returns)
+pub put-key-line-spec : {M : Type 1} → statement M
+put-key-line-spec = tie.close (tie.spec (λ _ _. tt) (λ _ _. tt) (λ _ _. tt) (λ _ _. tt) same-length returns)

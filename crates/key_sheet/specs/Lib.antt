@@ -1,2 +1,0 @@
--- A line of the key by its columns.
-pub mod Line
