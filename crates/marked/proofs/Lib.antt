@@ -1,6 +1,8 @@
--- What the definitions print, computed: K1 to K11 and rows of our own, reasons, shares, shorter questions, and lookups in ranking tables.
+-- What the definitions print, computed: K1 to K11 and rows of our own, reasons, shares, shorter questions, lookups in
+-- ranking tables, and operations on the bridge card.
 pub mod MarkedSequences
 pub mod MarkedReasons
 pub mod MarkedShares
 pub mod MarkedShorten
 pub mod MarkedRankings
+pub mod MarkedCards

@@ -1,0 +1,8 @@
+-- Why what is put is what the definitions say.
+pub mod Inputs
+pub mod Dispatching
+pub mod Printing
+pub mod Obeying
+pub mod Commanding
+pub mod Fitting
+pub mod Room

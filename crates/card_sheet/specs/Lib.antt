@@ -1,0 +1,3 @@
+-- What the program `card` reads and prints, and what the functions behind it promise.
+pub mod Sheet
+pub mod Promises
