@@ -12,20 +12,21 @@ work=$(mktemp -d)
 trap 'rm -rf "$work"' EXIT
 repository="$work/the repository"
 outside="$work/another folder"
-mkdir -p "$repository/tests" "$outside/samples" "$work/bin" "$work/few" "$work/built"
+mkdir -p "$repository/tests" "$outside/samples" "$work/bin" "$work/few" "$work/more" "$work/built"
 cp -r "$here/../key" "$here/../check" "$here/../crates.txt" "$here/../samples" "$here/../tools" "$repository"
-cp -r "$here/office_tables" "$repository/tests"
+cp -r "$here/office_tables" "$here/cards" "$repository/tests"
 ln -s "$repository/key" "$work/bin/first"
 ln -s first "$work/bin/key"
 ln -s "$repository/check" "$work/bin/check"
 cp "$here/../samples/bridge" "$outside/samples/k1" # the name of another file in the repository
 cp "$here/../samples/k1" "$outside/a file"
 for tool in bash env dirname readlink cat mktemp rm; do ln -s "$(command -v $tool)" "$work/few/$tool"; done
+for tool in head tr wc sed; do ln -s "$(command -v $tool)" "$work/more/$tool"; done
 
 # The programs that rt "builds" are in $work/built; while $work/slow is there, proving does not end.
 originals() {
     cp "$program" "$work/built/key"
-    cp "$(dirname "$program")"/{list_to_file,plain_key,reason,file_to_list,shares,shorten,ranking} "$work/built"
+    cp "$(dirname "$program")"/{list_to_file,plain_key,reason,file_to_list,shares,shorten,ranking,card} "$work/built"
 }
 originals
 cat >"$work/bin/rt" <<END
@@ -95,7 +96,7 @@ run "a full device" 1 bash -c 'key "a file" >/dev/full'
 run "a closed standard output" 1 bash -c 'key "a file" >&-'
 run "wrong use" 2 key --none
 run "wrong use with --both" 2 key --both --none
-for name in plain_key reason file_to_list shares shorten ranking; do
+for name in plain_key reason file_to_list shares shorten ranking card; do
     [ ! -e "$repository/target/bin/$name" ] || wrong "$name is built although nobody asked for it"
 done
 run "help without rt" 0 env PATH="$work/few" "$repository/key" --help
@@ -363,6 +364,108 @@ run "interval, the program changed" 0 key --interval 1000 "a table"; prints_line
 echo >>"$repository/target/bin/ranking"
 run "a changed ranking, not asked for" 0 key "a file"; prints "$work/k1.key"
 
+# The interrupt card. Of the bridge, here samples/k1, the first seven events let thread 0 block and thread 1 run.
+printf 'block 1 0 1 0 0 0 0 0 0 0 0 0\nrun 7\nraise 0\npoll\nread 2\n' >"a card"
+card=("1 ok 0 1 1 0 0" "0 1 0 1 0 0 0 0 0 0 0 0 0" "2 ok 0 1 1 0 0" "0 1 1 1 0 0 0 0 0 0 0 0 0"
+    "3 ok 0 0 0 0 0" "0 1 0 1 0 0 0 0 0 0 0 0 0" "4 ok 0 0 0 0 0" "1 1 0 1 0 0 0 0 0 0 0 0 0")
+{
+    printf '# the sounder\r\n\r\n  block 1 0 1\t0 0   0 0 0 0 0 0 0 \t# its \374\200line\r\nrun 7#events\r\n\t\r\n'
+    printf '#\r\nraise\t0\r\n   poll\r\n \tread 2\r'
+} >"loose card"
+rm -rf "$repository/target"
+run "card, an event file, first use" 0 key --card "a card" samples/k1; prints_lines "${card[@]}"
+[ "$(ls "$repository/target/bin" | tr '\n' ' ')" = "card list_to_file " ] || wrong "built are $(ls "$repository/target/bin")"
+run "card, unchanged" 0 key samples/k1 --card "a card"; prints_lines "${card[@]}"; says_nothing
+run "card, a list in words" 0 key --card "a card" "$repository/samples/bridge.txt"; prints_lines "${card[@]}"; says_nothing
+run "card, standard input" 0 key --card "a card" - <samples/k1; prints_lines "${card[@]}"; says_nothing
+run "card, words on standard input" 0 key --card "a card" - <"$repository/samples/bridge.txt"; prints_lines "${card[@]}"; says_nothing
+run "card, a list that can be read once" 0 bash -c 'key --card <(cat "a card") samples/k1 "a file"'
+[ "$(sed -n 2,9p "$work/out")" = "$(printf '%s\n' "${card[@]}")" ] && [ "$(wc -l <"$work/out")" -eq 18 ] ||
+    wrong "it printed $(cat "$work/out")"
+for locale in C C.UTF-8; do
+    run "card, a loose list, $locale" 0 env LC_ALL=$locale key --card "loose card" samples/k1; prints_lines "${card[@]}"; says_nothing
+done
+readme --card
+shown=${example[0]-}
+shown=${shown#* --card }
+awk '/^    block / { on = 1 } !NF { on = 0 } on { sub(/^ */, ""); print }' "$here/../README.md" >"$work/lines"
+cmp -s "$work/lines" "$repository/${shown%% *}" || wrong "README shows the card list $(cat "$work/lines")"
+run "card, samples, its list in the caller's folder" 0 key --card "a card"
+[ "$(grep -A 1 '^samples/' "$work/out" | grep -c '^1 ok ')" -eq "$(ls "$repository/samples" | wc -l)" ] || wrong "not every sample"
+echo block >"no command"
+run "card, no command" 0 key --card "no command" samples/k1; prints /dev/null; says_nothing
+run "card, no command, a refused file" 0 key --card "no command" - </dev/null; prints "$work/file14"; says_nothing
+run "card, several files, some of them refused" 0 key --card "a card" "role 2" samples/k1 "version 2"
+prints_lines "role 2" "file 16" samples/k1 "${card[@]}" "version 2" "file 15"; says_nothing
+for file in "too long" "far too long" /dev/null; do
+    run "card, $file" 0 key --card "a card" "$file"; prints_lines "file 14"; says_nothing
+done
+run "card, a list of events that cannot be read" 1 key --card "a card" "wrong list"; prints /dev/null
+says_only "key: wrong list: line 3: no such event"
+run "card, a missing file among others" 1 key --card "a card" none samples/k1; prints_lines samples/k1 "${card[@]}"
+says_only "key: none: no such file"
+printf 'block 1 0 1 0 0 0 0 0 0 0 0 0\nrun 7\nraise 0\npoll\nread 2\n%1048520s' '' >"longest card"
+run "card, the longest list" 0 key --card "longest card" samples/k1; prints_lines "${card[@]}"; says_nothing
+# Before anything is proved: what is wrong with a card list.
+rm -rf "$repository/target"
+wrong_card() { # SENTENCE [CARD]
+    local list=${2:-wrong card}
+    run "card, $list: $1" 1 key --card "$list" samples/k1; prints /dev/null; says_only "key: $list: $1"
+}
+faulty_card() { # WRONG LINE
+    printf '# line 1\r\n\nblock 1 0 255 0 0 0 0 0 0 0 0 0\n%s\npoll\nfrob\n' "$2" >"wrong card"
+    wrong_card "line 4: $1"
+}
+echo >>"longest card"
+wrong_card "too long, a card list in words has up to 1,048,576 bytes" "longest card"
+for line in frob Read POLL 4 '*' 'create 0 client' $'\357\273\277poll' $'poll\rpoll' 'polls 1'; do
+    faulty_card "no such command" "$line"
+done
+for line in block "block 1" "block x"; do faulty_card "a second block" "$line"; done
+for word in x 01 00 -1 +1 1.5 0x1 1e3 '*' '\1' '"1"' '1;' 256 1000 4294967296 99999999999999999999 18446744073709551617; do
+    faulty_card "'$word' is no number from 0 to 255 without leading zeros" "read $word"
+done
+for line in "read 256 4" "write 256 x" "write 0 256" "write 0 256 1" "raise 256" "run 256"; do
+    faulty_card "'256' is no number from 0 to 255 without leading zeros" "$line"
+done
+for line in read write "write 0" raise run "read # 4" "write 0 #1"; do faulty_card "a number is missing" "$line"; done
+for line in "read 4 0" "write 0 1 2" "raise 0 x" "poll 0" "poll x" "run 6 01"; do faulty_card "one too many" "$line"; done
+printf '# no block\n\nread 4\nblock\n' >"wrong card"; wrong_card "line 3: the block is missing"
+printf 'poll' >"wrong card"; wrong_card "line 1: the block is missing"
+printf 'frob\nblock\n' >"wrong card"; wrong_card "line 1: no such command"
+printf '\nblock 1 0 256 x\n' >"wrong card"; wrong_card "line 2: '256' is no number from 0 to 255 without leading zeros"
+printf '# nothing\n\n#' >"wrong card"; wrong_card "the block is missing"
+: >"wrong card"; wrong_card "the block is missing"
+printf 'block\n\0' >"wrong card"; wrong_card "is no card list in words, it has a control byte"
+wrong_card "is no card list in words, it has a control byte" "a file"
+wrong_card "line 1: no such command" "$repository/samples/bridge.txt"
+wrong_card "no such file" none
+wrong_card "is a folder" .
+[ ! -e "$repository/target" ] || wrong "something is proved for a wrong list"
+run "card, a full device" 1 bash -c 'key --card "a card" samples/k1 >/dev/full'; says "a write failed"
+run "card, a closed standard input" 1 bash -c 'key --card "a card" - <&-'; says_only "key: -: is closed"
+run "card, a closed standard error" 0 bash -c 'key --card "a card" samples/k1 2>&-'; prints_lines "${card[@]}"
+run "card, help behind it" 0 env PATH="$work/few" "$repository/key" --card "a card" --help; prints_part "--card CARD [FILE..]"
+run "card, no rt" 1 env PATH="$work/few:$work/more" "$repository/key" --card "a card" samples/k1
+says_only "key: needs the Rattle kit: there is no rt on the PATH"
+run "no --card behind --" 1 key -- --card; says_only "key: --card: no such file"
+misused "--card: the card list is missing" samples/k1 --card
+misused "--card: the card list is missing" --card "" samples/k1
+misused "--card: a card list is a file, standard input is for FILE" --card - samples/k1
+misused "--card is there twice" --card "a card" --card "a card" samples/k1
+misused "--both and --card do not go together" --card "a card" --both
+misused "--why and --card do not go together" --card none --why 8 samples/k1
+misused "--shares and --card do not go together" --shares --card "a card"
+misused "--shorten and --card do not go together" --card "a card" --shorten 8 samples/k1
+misused "--interval and --card do not go together" --interval 8 --card "a card" "a table"
+misused "no option --card=a" --card=a samples/k1
+for name in card list_to_file; do
+    printf '#!/bin/sh\necho 0\n' >"$repository/target/bin/$name"
+    run "card, $name changed" 0 key --card "a card" samples/k1; prints_lines "${card[@]}"; says "building it again"
+done
+echo >>"$repository/target/bin/card"
+run "a changed card, not asked for" 0 key "a file"; prints "$work/k1.key"
+
 # Instead of NAME a program that runs it, with more behind that.
 replace() { # NAME MORE
     originals
@@ -429,6 +532,33 @@ run "interval, the bytes of many rows" 0 key --interval 513 {0,1,64,65,254,255,2
 echo x >>512.rows
 run "interval, a wrong line behind 512 rows" 1 key --interval 513 512.rows; prints /dev/null
 says_only "key: 512.rows: line 513: 'x' is no number from 0 to 65,535 without leading zeros"
+replace card '; echo "cannot be written" >&2'
+run "a card that says something" 1 key --card "a card" samples/k1; says "^key: samples/k1: the program card ended with: cannot be written$"
+replace card '; kill -SEGV $$'
+run "a card that crashes after printing" 1 key --card "a card" samples/k1; says "the program card ended with: .*status 139"
+# One that prints the bytes that it gets: the block, the commands and the file.
+printf '#!/bin/sh\nod -An -v -tu1 -w9999 | tr -s " "\n' >"$work/built/card"
+rm -rf "$repository/target"
+printf 'block 1 2 255\npoll\nrun 7\nwrite 8 9\nraise 10\nread 0\nread 255\n' >"bytes card"
+printf '\0\0\0\1\1' >"no event"
+run "card, the bytes" 0 key --card "bytes card" "no event" - < <(echo reply)
+bytes=" 3 1 2 255 6 3 0 0 4 7 0 1 8 9 2 10 0 0 0 0 0 255 0"
+prints_lines "no event" "$bytes 0 0 0 1 1" - "$bytes 0 0 0 3 1 1 4"
+for many in 0 1 12 255; do
+    { echo "block $(seq -s ' ' "$many")"; seq "$many" | sed 's/^/read /'; } >many
+    run "card, $many bytes and $many commands" 0 key --card many "no event"
+    prints_lines "$(awk -v many="$many" 'BEGIN {
+        printf " %d", many
+        for (k = 1; k <= many; k++) printf " %d", k
+        printf " %d", many
+        for (k = 1; k <= many; k++) printf " 0 %d 0", k
+        print " 0 0 0 1 1"
+    }')"; says_nothing
+done
+echo poll >>many
+wrong_card "line 257: more than 255 commands" many
+{ echo; echo "block $(seq -s ' ' 255) 0"; } >many
+wrong_card "line 2: a block of more than 255 bytes" many
 replace shorten '; sleep 1.5'
 key --shorten 8 "a question" >/dev/null 2>&1 # builds it
 run "a shorten that takes longer than a second" 0 key --shorten 8 "a question"; prints_lines "${shorter[@]}"
@@ -464,7 +594,7 @@ run "after an interruption" 0 key "a file"; prints "$work/k1.key"
 
 # ./check: rt ci says the words given and ends with the status given; the outside tests end as told.
 ci() { printf '%s\n' "$2" >"$work/ci"; echo "$1" >"$work/ci.status"; } # STATUS WORDS
-names="sequences compare command wakes reasons shares shorten office_tables ranking words documents sentences"
+names="sequences compare command wakes reasons shares shorten office_tables ranking cards card words documents sentences"
 tests() { # [NAME of the one that fails]
     local one
     for one in $names; do echo 'echo "given: $*"' >"$repository/tests/$one.sh"; done
@@ -481,6 +611,7 @@ run "check, then key --why" 0 key --why 8 samples/k1; says_nothing
 run "check, then key --shares" 0 key --shares samples/k1; says_nothing
 run "check, then key --shorten" 0 key --shorten 8 "a question"; says_nothing
 run "check, then key --interval" 0 key --interval 1000 "a table"; says_nothing
+run "check, then key --card" 0 key --card "a card" samples/k1; says_nothing
 run "check, its tests and what they are given" 0 check 5 6
 {
     echo "rt: ok"
@@ -509,7 +640,7 @@ run "check without a tally" 1 check; ends_not_in '0 failed$'
 ci 0 "0 passed, 0 failed"
 run "check with nothing passed" 1 check; ends_not_in '0 failed$'
 ci 0 "7 passed, 0 failed"
-for name in key list_to_file plain_key reason file_to_list shares shorten ranking; do
+for name in key list_to_file plain_key reason file_to_list shares shorten ranking card; do
     originals
     rm "$work/built/$name" "$repository/target/bin/$name"
     run "check with $name missing" 1 check; ends_in "left no target/bin/$name\$"

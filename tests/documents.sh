@@ -29,7 +29,7 @@ same() { # NAME OTHER FILE OTHER_FILE
 }
 
 # README: seven columns, then the reason.
-sed -n '/^## A worked example/,/^## What/p' README.md |
+sed -n '/^## A worked example/,/^## Who/p' README.md |
     awk '/^    [0-9]+ (ok|no) / { print $1, $2, $3, $4, $5, $6, $7 }' >"$work/shown"
 if key_to "$work/key" <samples/bridge; then same README.md "the key of samples/bridge" "$work/shown" "$work/key"; else bad=$((bad + 1)); fi
 
