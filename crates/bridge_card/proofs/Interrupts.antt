@@ -1,6 +1,6 @@
 -- THE THEOREMS of request [9], of every block and every machine. `line-exactly`: a line is to be taken exactly where it is the lowest that
 -- is pending and enabled, with the card on. `poll-comes`: what a poll comes to. `poll-sound`: its machine stays sound. `held-back`: a
--- refused wake holds back the lines above. `raise-then-poll`, `as-in-a-list`: it wakes the thread as the event in a list would.
+-- refused wake holds back the lines above. `raise-then-poll`, `as-the-wake`, `as-in-a-list`: it wakes the thread as the event would.
 -- `reads-back`, `control-alike`: control's other bits are stored and change nothing. `only-raise-sets`, `raise-sets`: which operation sets
 -- a pending bit. `drains`, `code-drains`: polls until the first refusal.
 use Prim.Native.Nat.{ℕ, zero, suc, _≤_, _<_}
@@ -31,6 +31,8 @@ use Rattle.bridge_card.specs.Meaning.{Drained, drain, wakesOf, Rising, E
 use Rattle.dispatcher.specs.declared.Machine.{Machine}
 use Rattle.dispatcher.specs.declared.Answered as code
 use Rattle.dispatcher.specs.Shown.{shown, soundMachine}
+use Rattle.dispatcher.specs.Promise.{Answers}
+use Rattle.dispatcher.proofs.Runs.{answerTo}
 use Rattle.bridge_card.proofs.Refusing.{read-none, write-none}
 use Rattle.bridge_card.proofs.Answering.{read-stored, write-done, written-other}
 use Rattle.bridge_card.proofs.Polling.{polled-line}
@@ -125,6 +127,12 @@ raise-then-poll isSound b line s twelve t =
     by : (k : ℕ) → (k ≡ 0 → ⊥) → blockAfter k raised line ≡ raised
     by zero given = absurd (given refl)
     by (suc k) given = refl
+
+-- the code's poll then keeps the promise of the code's wake, on every stored machine
+pub as-the-wake : (b after : List ℕ) (line : ℕ) (m : Machine) (r : code.Answered) → length b ≡ 12 → Takes (raise b line .block) line
+    → Polls (raise b line .block) m after r → Answers (answerTo (Wake (threadOf b line)) m) m r
+as-the-wake b after line m r twelve t polls =
+    subst (λ (a : Answered). Answers a m r) (raise-then-poll (soundMachine m) b line (shown m) twelve t .answer) (polls .1)
 
 -- as the event in a list would: with any events before it and behind it
 pub as-in-a-list : (b : List ℕ) (line : ℕ) (before behind : List Event) (s : State) → length b ≡ 12 → Takes (raise b line .block) line
