@@ -114,8 +114,7 @@ blockAfter (suc number) b line = b
 abbrev pub woken : List ℕ → ℕ → Answered → Polled
 woken b line a = record { block = blockAfter (a .refusal) b line; answer = a }
 
--- "22, no line to take at a poll, after 20 and before all refusals of the wake, 1 included"; the first argument says whether the machine
--- is sound
+-- "22, no line to take at a poll, after 20 and before all refusals of the wake, 1 included"; `isSound` says whether the machine is
 abbrev pub polledWith : Option ℕ → Bool → List ℕ → State → Polled
 polledWith none isSound b s = unchanged 22 b s
 polledWith (some line) isSound b s = woken b line (offerIf isSound (Wake (threadOf b line)) s)

@@ -9,7 +9,6 @@ use Rattle.rules.specs.declared.Event.{Event}
 use Rattle.rules.specs.declared.Event.the-variants.{Wake}
 use Rattle.rules.specs.State.{State}
 use Rattle.rules.specs.Events.{Answered, refused, offerIf}
-use Rattle.bridge_card.specs.Bits.{bit}
 use Rattle.bridge_card.specs.Card.{isOn, isPending, isEnabled, threadOf, write, raise, lineToTake, Polled, unchanged, pollIf}
 use Rattle.dispatcher.specs.declared.Machine.{Machine}
 use Rattle.dispatcher.specs.declared.Answered as code
@@ -30,10 +29,11 @@ pub record Cleared (b after : List ℕ) (line : ℕ) : Type 0 where
   pub other-bytes : (at : ℕ) → (at ≡ 1 → ⊥) → getD after at 0 ≡ getD b at 0
   pub as-long : length after ≡ length b
 
--- what a poll comes to; `wake` is the answer to the wake of a line's thread
+-- the answer to the wake of a line's thread
 abbrev pub wakeOf : Bool → List ℕ → State → ℕ → Answered
 wakeOf isSound b s line = offerIf isSound (Wake (threadOf b line)) s
 
+-- what a poll comes to
 pub data Comes (isSound : Bool) (b : List ℕ) (s : State) : Polled → Type 0 where
   -- 20
   no-block : (length b ≡ 12 → ⊥) → Comes isSound b s (unchanged 20 b s)
