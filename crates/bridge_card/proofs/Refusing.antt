@@ -1,15 +1,15 @@
 -- The refusals 20 and 21 by their tests, and what an accepted operation is known by.
-use Prim.Native.Nat.{ℕ, _≤_, _<_}
-use mathlib.Core.Path.{_≡_, refl}
+use Prim.Native.Nat.{ℕ, _≤_}
+use mathlib.Core.Path.{_≡_, refl, ap, _∙_}
 use mathlib.Core.List.{List}
-use mathlib.Core.Bool.{true, false, not, _||_}
+use mathlib.Core.Bool.{Bool, true, false, not, _||_}
 use lib.Dec.{ltb, eqb}
 use lib.ListN.{length}
-use borrow.Author.Tests.{lt-ltb, le-ltb, eq-eqb, ne-eqb, ltb-false, eqb-true, eqb-false, not-false}
+use borrow.Author.Tests.{le-ltb, eq-eqb, ne-eqb, ltb-false, eqb-true, eqb-false, not-false}
 use Rattle.rules.specs.Refusals.{_gives_else_}
-use Rattle.rules.proofs.Basics.Views.{or-true-right, or-false-both}
+use Rattle.rules.proofs.Basics.Views.{or-false-both}
 use Rattle.rules.proofs.Basics.Accepting.{passes}
-use Rattle.bridge_card.specs.Card.{isBlock, readRefusal, writeRefusal, raiseRefusal}
+use Rattle.bridge_card.specs.Card.{isBlock, refusalOf, readRefusal, notWritten, writeRefusal, raiseRefusal}
 
 module _ (b : List ℕ) where
   -- "20, a block that is not 12 bytes, before all others"
@@ -17,53 +17,41 @@ module _ (b : List ℕ) where
     pub no-block : isBlock b ≡ false
     no-block = ne-eqb (length b) 12 other
 
-    pub read-20 : (register : ℕ) → readRefusal b register ≡ 20
-    unfolding readRefusal
-    read-20 register = rw no-block refl
-
-    pub write-20 : (register : ℕ) → writeRefusal b register ≡ 20
-    unfolding writeRefusal
-    write-20 register = rw no-block refl
-
-    pub raise-20 : (line : ℕ) → raiseRefusal b line ≡ 20
-    unfolding raiseRefusal
-    raise-20 line = rw no-block refl
+    pub refused-20 : (wrong : Bool) → 20 ≡ refusalOf b wrong
+    refused-20 wrong = rw no-block refl
 
   module _ (twelve : length b ≡ 12) where
     pub a-block : isBlock b ≡ true
     a-block = eq-eqb (length b) 12 twelve
 
-    -- "21, register above 11, a write to byte 3, or line above 7, after 20"
-    pub read-21 : (register : ℕ) → 11 < register → readRefusal b register ≡ 21
-    unfolding readRefusal
-    read-21 register above = rw (a-block, lt-ltb 11 register above) refl
+    -- "21, .., after 20"
+    pub refused-21 : (wrong : Bool) → wrong ≡ true → 21 ≡ refusalOf b wrong
+    refused-21 wrong e = rw (a-block, e) refl
+
+    pub not-refused : (wrong : Bool) → wrong ≡ false → 0 ≡ refusalOf b wrong
+    not-refused wrong e = rw (a-block, e) refl
 
     pub read-none : (register : ℕ) → register ≤ 11 → readRefusal b register ≡ 0
     unfolding readRefusal
     read-none register small = rw (a-block, le-ltb 11 register small) refl
 
-    pub write-21 : (register : ℕ) → 11 < register → writeRefusal b register ≡ 21
-    unfolding writeRefusal
-    write-21 register above = rw (a-block, lt-ltb 11 register above) refl
-
-    pub write-byte-3 : (register : ℕ) → register ≡ 3 → writeRefusal b register ≡ 21
-    unfolding writeRefusal
-    write-byte-3 register three =
-        let not-written : (ltb 11 register || eqb register 3) ≡ true =
-        or-true-right (ltb 11 register) (eqb register 3) (eq-eqb register 3 three) in
-        rw (a-block, not-written) refl
-
     pub write-none : (register : ℕ) → register ≤ 11 → (register ≡ 3 → ⊥) → writeRefusal b register ≡ 0
     unfolding writeRefusal
     write-none register small other = rw (a-block, le-ltb 11 register small, ne-eqb register 3 other) refl
 
-    pub raise-21 : (line : ℕ) → 7 < line → raiseRefusal b line ≡ 21
-    unfolding raiseRefusal
-    raise-21 line above = rw (a-block, lt-ltb 7 line above) refl
+  -- the number that the code's tests gave is that of the operation
+  module _ {n : ℕ} where
+    pub is-read : (register : ℕ) → n ≡ refusalOf b (ltb 11 register) → n ≡ readRefusal b register
+    unfolding readRefusal
+    is-read register e = e
 
-    pub raise-none : (line : ℕ) → line ≤ 7 → raiseRefusal b line ≡ 0
+    pub is-write : (register : ℕ) {wrong : Bool} → wrong ≡ notWritten register → n ≡ refusalOf b wrong → n ≡ writeRefusal b register
+    unfolding writeRefusal
+    is-write register is e = e ∙ ap (refusalOf b) is
+
+    pub is-raise : (line : ℕ) → n ≡ refusalOf b (ltb 7 line) → n ≡ raiseRefusal b line
     unfolding raiseRefusal
-    raise-none line small = rw (a-block, le-ltb 7 line small) refl
+    is-raise line e = e
 
   -- not refused with 20
   is-block : (rest : ℕ) → (not (isBlock b) gives 20 else rest) ≡ 0 → (length b ≡ 12) × (rest ≡ 0)

@@ -36,15 +36,22 @@ threadOf b line = getD b (4 + line) 0
 abbrev pub withPending : (ℕ → Bool) → List ℕ → List ℕ
 withPending lines b = set b 1 (byteOf lines)
 
--- "20, a block that is not 12 bytes, before all others; 21, register above 11, a write to byte 3, or line above 7, after 20"
+-- "20, a block that is not 12 bytes, before all others; 21, .., after 20"
+abbrev pub refusalOf : List ℕ → Bool → ℕ
+refusalOf b wrong = not (isBlock b) gives 20 else wrong gives 21 else 0
+
+-- "21, register above 11, a write to byte 3, or line above 7"
 unfoldable pub readRefusal : List ℕ → ℕ → ℕ
-readRefusal b register = not (isBlock b) gives 20 else ltb 11 register gives 21 else 0
+readRefusal b register = refusalOf b (ltb 11 register)
+
+abbrev pub notWritten : ℕ → Bool
+notWritten register = ltb 11 register || eqb register 3
 
 unfoldable pub writeRefusal : List ℕ → ℕ → ℕ
-writeRefusal b register = not (isBlock b) gives 20 else ltb 11 register || eqb register 3 gives 21 else 0
+writeRefusal b register = refusalOf b (notWritten register)
 
 unfoldable pub raiseRefusal : List ℕ → ℕ → ℕ
-raiseRefusal b line = not (isBlock b) gives 20 else ltb 7 line gives 21 else 0
+raiseRefusal b line = refusalOf b (ltb 7 line)
 
 -- "byte 3 reads 0", "a refused read gives 0"
 abbrev pub readAfter : ℕ → List ℕ → ℕ → Reading

@@ -15,9 +15,8 @@ use dispatcher::Answered;
 use dispatcher::Machine;
 use lines::NO_LINE;
 use lines::line_to_take;
-use refusals::raise_refusal;
-use refusals::read_refusal;
-use refusals::write_refusal;
+use refusals::is_not_written;
+use refusals::refusal_of;
 
 // What a read hands back: its refusal number, 0 for none, and the byte.
 pub struct Reading {
@@ -29,7 +28,7 @@ pub struct Reading {
 pub fn read_register(block: &[u8], register: u8) -> Reading
     ensures { λ r. ⌜ r ≡ read (now (block .entry)) register ⌝ }
 {
-    let refusal = read_refusal(block, register);
+    let refusal = refusal_of(block, 11 < register);
     if refusal != 0 {
         return Reading { refusal, byte: 0 };
     }
@@ -46,7 +45,7 @@ pub fn read_register(block: &[u8], register: u8) -> Reading
 pub fn write_register(block: &mut [u8], register: u8, byte: u8) -> u8
     ensures { λ r. ⌜ record { refusal = r; block = now (block .exit) } ≡ write (now (block .entry)) register byte ⌝ }
 {
-    let refusal = write_refusal(block, register);
+    let refusal = refusal_of(block, is_not_written(register));
     if refusal != 0 {
         return refusal;
     }
@@ -63,7 +62,7 @@ pub fn write_register(block: &mut [u8], register: u8, byte: u8) -> u8
 pub fn raise_line(block: &mut [u8], line: u8) -> u8
     ensures { λ r. ⌜ record { refusal = r; block = now (block .exit) } ≡ raise (now (block .entry)) line ⌝ }
 {
-    let refusal = raise_refusal(block, line);
+    let refusal = refusal_of(block, 7 < line);
     if refusal != 0 {
         return refusal;
     }
