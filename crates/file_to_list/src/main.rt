@@ -1,5 +1,5 @@
 // Prints the events of the file on standard input, one a line in words.
-use list_text::ROOM;
+use list_writer::ROOM;
 
 // Room for every text.
 fn room() -> [u8; ROOM] {
@@ -7,7 +7,7 @@ fn room() -> [u8; ROOM] {
 }
 
 fn main() {
-    let mut file = list_text::file_input();
+    let mut file = list_writer::file_input();
     let input = streams::fill(&mut file);
     if input.failed {
         streams::complain(b"file_to_list: standard input cannot be read\n");
@@ -15,7 +15,7 @@ fn main() {
     }
     let n = input.bytes;
     let mut out = room();
-    let written = list_text::write_text(&file[..n], &mut out);
+    let written = list_writer::write_text(&file[..n], &mut out);
     let output = streams::send(&out[..written]);
     if output.failed {
         streams::complain(b"file_to_list: standard output cannot be written\n");

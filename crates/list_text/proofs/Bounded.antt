@@ -16,11 +16,11 @@ use Rattle.rules.specs.EventFile.{byte, roleByte, fits, allFit, recordOf}
 use Rattle.rules.specs.Key.{bytes}
 use Rattle.rules.proofs.Basics.Views.{and-true-both}
 use Rattle.rules.proofs.Basics.Members.{all-cons}
-use Rattle.list_text.specs.declared.Line.{Line}
-use Rattle.list_text.specs.declared.Line.the-variants.{Empty, One, Wrong}
-use Rattle.list_text.specs.Reading.{parts, lineFeed, wordsOf, uncommented, digitByte, value, number, eventNamed, lineOfWords, lineOf}
+use Rattle.list_line.specs.declared.Line.{Line}
+use Rattle.list_line.specs.declared.Line.the-variants.{Empty, One, Wrong}
+use Rattle.list_line.specs.Reading.{parts, lineFeed, wordsOf, uncommented, digitByte, value, number, eventNamed, lineOfWords, lineOf}
+use Rattle.list_line.specs.Reading as words
 use Rattle.list_text.specs.Reading.{Answer, read, refused, withEvent, afterLine, readLines, readText}
-use Rattle.list_text.specs.Reading as words
 
 -- bytes in a row
 none : all byte [] ≡ true

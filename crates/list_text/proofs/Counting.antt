@@ -12,13 +12,14 @@ use Rattle.rules.specs.declared.Event.{Event}
 use Rattle.rules.specs.EventFile.{recordOf, recordsOf}
 use Rattle.text.specs.Put.{Put}
 use Rattle.text.proofs.Puts.{put-none, _then_, reading}
-use Rattle.list_text.specs.declared.Line.{Line}
-use Rattle.list_text.specs.declared.Line.the-variants.{Empty, One, Wrong}
-use Rattle.list_text.specs.declared.scan.Until.the-variants.{LineFeed}
-use Rattle.list_text.specs.Reading.{parts, lineFeed, lineOf, Answer, read, refused, withEvent, afterLine, readLines, lineAfter}
-use Rattle.list_text.specs.Reading.{readText}
-use Rattle.list_text.specs.Scanning.{stops, endOf, counted, Counts, lineRecord, linesRecords}
-use Rattle.list_text.proofs.Scans.{parts-first, later, more-parts, no-more-parts, scan-within}
+use Rattle.list_line.specs.declared.Line.{Line}
+use Rattle.list_line.specs.declared.Line.the-variants.{Empty, One, Wrong}
+use Rattle.list_line.specs.declared.scan.Until.the-variants.{LineFeed}
+use Rattle.list_line.specs.Reading.{parts, lineFeed, lineOf}
+use Rattle.list_line.specs.Scanning.{stops, endOf}
+use Rattle.list_line.proofs.Scans.{parts-first, later, more-parts, no-more-parts, scan-within}
+use Rattle.list_text.specs.Reading.{Answer, read, refused, withEvent, afterLine, readLines, lineAfter, readText}
+use Rattle.list_text.specs.Counting.{counted, Counts, lineRecord, linesRecords}
 
 -- the line at a place, and those after it
 module _ (text : List ℕ) (at end : ℕ) (inside : at ≤ length text) (ends : end ≡ at + endOf (stops LineFeed) (drop at text)) where

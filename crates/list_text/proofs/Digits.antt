@@ -12,7 +12,7 @@ use Rattle.rules.proofs.Basics.Views.{Two, yes-true, no-false, two, and-true-le
 use Rattle.rules.proofs.Basics.Views.{same}
 use Rattle.rules.proofs.Basics.Members.{all-head, all-tail}
 use Rattle.text.proofs.Decimals.{one-digit, last-digit}
-use Rattle.list_text.specs.Reading.{digitByte, valueFrom, value}
+use Rattle.list_line.specs.Reading.{digitByte, valueFrom, value}
 use Rattle.list_text.specs.Form.{leadingZero, isEmpty}
 
 pub all-append : (f : ℕ → Bool) (a b : List ℕ) → all f a ≡ true → all f b ≡ true → all f (a ++ b) ≡ true

@@ -9,8 +9,8 @@ use Rattle.rules.specs.declared.Event.{Event}
 use Rattle.rules.specs.declared.Event.the-variants.{Create, Give, Call, Reply, Block, Wake, Charge, Abort, Refill, Remove, Rank}
 use Rattle.rules.specs.Tests.{all}
 use Rattle.rules.specs.Key.{bytes, digits, decimal}
-use Rattle.list_text.specs.Writing.{eventWords, textOf}
-use Rattle.list_text.specs.Reading.{parts, uncommented, notEmpty, wordsOf, same, valueFrom, value, eventNamed, lineOf}
+use Rattle.list_line.specs.Reading.{parts, uncommented, notEmpty, wordsOf, same, valueFrom, value, eventNamed, lineOf}
+use Rattle.list_writer.specs.Writing.{eventWords, textOf}
 use Rattle.list_text.specs.Form.{allPlain, plainLines, inWrittenForm}
 use Rattle.list_text.specs.Reading.{Answer, read, refused, readLines, readText}
 

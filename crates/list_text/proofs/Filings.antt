@@ -13,13 +13,13 @@ use Rattle.rules.proofs.Basics.Views.{Two, yes-true, no-false, two}
 use Rattle.rules.proofs.Files.WrittenThenRead.{length-fileOf}
 use Rattle.text.specs.Put.{Put}
 use Rattle.text.proofs.Puts.{at-front, reading}
+use Rattle.list_line.specs.declared.Line.{Line}
+use Rattle.list_line.specs.declared.Line.the-variants.{Empty, One, Wrong}
+use Rattle.list_line.specs.Reading.{parts, lineFeed, lineOf}
 use Rattle.list_text.specs.declared.Filed.{Filed}
-use Rattle.list_text.specs.declared.Line.{Line}
-use Rattle.list_text.specs.declared.Line.the-variants.{Empty, One, Wrong}
-use Rattle.list_text.specs.Reading.{parts, lineFeed, lineOf, Answer, read, refused, withEvent, afterLine, readLines, lineAfter}
-use Rattle.list_text.specs.Reading.{readText}
+use Rattle.list_text.specs.Reading.{Answer, read, refused, withEvent, afterLine, readLines, lineAfter, readText}
 use Rattle.list_text.specs.Answers.{filedAs, bufferAs}
-use Rattle.list_text.specs.Scanning.{counted, lineRecord, linesRecords}
+use Rattle.list_text.specs.Counting.{counted, lineRecord, linesRecords}
 
 -- the file so far has `filled` bytes
 abbrev pub Good : ℕ → List (List ℕ) → Answer → Type 0

@@ -14,8 +14,8 @@ use Rattle.rules.specs.Tests.{all}
 use Rattle.rules.specs.Key.{bytes, digit, decimal}
 use Rattle.rules.proofs.Basics.Views.{Two, yes-true, no-false, two, and-true-both}
 use Rattle.text.proofs.Decimals.{one-digit, last-digit}
-use Rattle.list_text.specs.Writing.{roleWord, eventWords}
-use Rattle.list_text.specs.Reading.{parts}
+use Rattle.list_line.specs.Reading.{parts}
+use Rattle.list_writer.specs.Writing.{roleWord, eventWords}
 use Rattle.list_text.specs.Form.{leadingZero, plainWord, space, allPlain, plainLine, plainLines}
 use Rattle.list_text.proofs.Joining.{joined, parts-between, parts-alone, Some, some-part}
 use Rattle.list_text.proofs.Spelling.{wordList, Word, AllWords, words-joined, word-free, decimal-word, event-words}

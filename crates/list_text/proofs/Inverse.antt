@@ -14,17 +14,17 @@ use Rattle.rules.proofs.Basics.Views.{Two, yes-true, no-false, two, and-true-le
 use Rattle.rules.proofs.Files.Accepting.{accepted}
 use Rattle.rules.proofs.Files.WrittenThenRead.{length-fileOf, accepted-back, eventsOf-back}
 use Rattle.rules.proofs.Files.Inverse.{as-written, events-fit}
-use Rattle.list_text.specs.declared.Line.{Line}
-use Rattle.list_text.specs.declared.Line.the-variants.{Empty, One, Wrong}
-use Rattle.list_text.specs.Writing.{eventWords, textOf, fileText}
-use Rattle.list_text.specs.Reading.{parts, lineFeed, uncommented, notEmpty, wordsOf, eventNamed, lineOfWords, lineOf}
+use Rattle.list_line.specs.declared.Line.{Line}
+use Rattle.list_line.specs.declared.Line.the-variants.{Empty, One, Wrong}
+use Rattle.list_line.specs.Reading.{parts, lineFeed, uncommented, notEmpty, wordsOf, eventNamed, lineOfWords, lineOf}
+use Rattle.list_writer.specs.Writing.{eventWords, textOf, fileText}
+use Rattle.list_writer.proofs.Fitting.{small}
+use Rattle.list_writer.proofs.Room.{text-length}
+use Rattle.list_writer.proofs.Texts.{accepted-text}
 use Rattle.list_text.specs.Reading.{Answer, read, refused, withEvent, afterLine, readLines, lineAfter, readText}
 use Rattle.list_text.specs.Form.{isEmpty, space, plainLine, plainLines, inWrittenForm}
-use Rattle.list_text.proofs.Fitting.{small}
-use Rattle.list_text.proofs.Room.{text-length}
 use Rattle.list_text.proofs.Joining.{joined, none-pass, parts-between, Some, some-part, parts-some, joined-parts}
 use Rattle.list_text.proofs.Spelling.{wordList, AllWords, words-joined, mark-free, line-of-joined, event-words, event-back}
-use Rattle.list_text.proofs.Texts.{accepted-text}
 use Rattle.list_text.proofs.Filings.{Good, text-good}
 use Rattle.list_text.proofs.Formed.{event-plain, line-first}
 use Rattle.list_text.proofs.Bounded.{AllBounded, text-bounded}

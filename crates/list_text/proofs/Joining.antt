@@ -7,7 +7,7 @@ use lib.Dec.{eqb}
 use borrow.Author.Tests.{eqb-true}
 use Rattle.rules.specs.Tests.{all}
 use Rattle.rules.proofs.Basics.Views.{Two, yes-true, no-false, two, and-true-left, and-true-right}
-use Rattle.list_text.specs.Reading.{onFirst, parts}
+use Rattle.list_line.specs.Reading.{onFirst, parts}
 
 -- parts with a byte between each two
 unfoldable pub joined : ℕ → List (List ℕ) → List ℕ

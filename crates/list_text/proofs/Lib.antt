@@ -1,15 +1,7 @@
--- The laws of lists in words: the writer, the reader, and that each undoes the other.
+-- The laws of lists in words: the reader, and that reader and writer undo each other.
 pub mod Examples
--- the writer
-pub mod Printing
-pub mod Fitting
-pub mod Room
-pub mod Enough
-pub mod Texts
 -- the reader
-pub mod Scans
-pub mod Numerals
-pub mod Taking
+pub mod Enough
 pub mod Counting
 pub mod Filings
 pub mod Sentences

@@ -14,15 +14,14 @@ use Rattle.rules.specs.Tests.{all}
 use Rattle.rules.specs.Key.{bytes, decimal}
 use Rattle.rules.proofs.Basics.Views.{Two, yes-true, no-false, two, Either, first, second, or-true-cases, and-true-left, and-true-right}
 use Rattle.rules.proofs.Basics.Views.{and-true-both}
-use Rattle.list_text.specs.declared.Line.{Line}
-use Rattle.list_text.specs.declared.Line.the-variants.{One}
-use Rattle.list_text.specs.Writing.{roleWord, eventWords}
-use Rattle.list_text.specs.Reading.{parts, hash, firstOf, uncommented, blank, ifSome, notEmpty, wordsOf, digitByte}
-use Rattle.list_text.specs.Reading.{number}
-use Rattle.list_text.specs.Reading.{eventNamed, lineOfWords, lineOf}
-use Rattle.list_text.specs.Reading as words
+use Rattle.list_line.specs.declared.Line.{Line}
+use Rattle.list_line.specs.declared.Line.the-variants.{One}
+use Rattle.list_line.specs.Reading.{parts, hash, firstOf, uncommented, blank, ifSome, notEmpty, wordsOf, digitByte, number}
+use Rattle.list_line.specs.Reading.{eventNamed, lineOfWords, lineOf}
+use Rattle.list_line.specs.Reading as words
+use Rattle.list_writer.specs.Writing.{roleWord, eventWords}
+use Rattle.list_writer.proofs.Fitting.{Small}
 use Rattle.list_text.specs.Form.{letterOrDigit, isEmpty}
-use Rattle.list_text.proofs.Fitting.{Small}
 use Rattle.list_text.proofs.Joining.{joined, none-pass, parts-between, parts-alone}
 use Rattle.list_text.proofs.Digits.{all-append, decimal-some, decimal-digits, decimal-value, digit-bounds}
 

@@ -14,11 +14,11 @@ use Rattle.rules.specs.declared.Event.the-variants.{Create, Give, Call, Reply, 
 use Rattle.rules.specs.Tests.{all}
 use Rattle.rules.specs.Key.{bytes, decimal}
 use Rattle.rules.proofs.Basics.Views.{and-true-left, and-true-right, and3}
-use Rattle.list_text.specs.declared.Line.{Line}
-use Rattle.list_text.specs.declared.Line.the-variants.{Empty, One, Wrong}
-use Rattle.list_text.specs.Writing.{roleWord}
-use Rattle.list_text.specs.Reading.{digitByte, value, number, eventNamed}
-use Rattle.list_text.specs.Reading as words
+use Rattle.list_line.specs.declared.Line.{Line}
+use Rattle.list_line.specs.declared.Line.the-variants.{Empty, One, Wrong}
+use Rattle.list_line.specs.Reading.{digitByte, value, number, eventNamed}
+use Rattle.list_line.specs.Reading as words
+use Rattle.list_writer.specs.Writing.{roleWord}
 use Rattle.list_text.specs.Form.{letterOrDigit, leadingZero, isEmpty, plainWord, allPlain}
 use Rattle.list_text.proofs.Digits.{value-decimal}
 use Rattle.list_text.proofs.Spelling.{wordList, Word, AllWords}

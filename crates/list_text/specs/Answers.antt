@@ -6,8 +6,8 @@ use lib.ListN.{length, drop}
 use lib.Dec.{eqb}
 use Rattle.rules.specs.EventFile.{fileOf}
 use Rattle.rules.specs.Key.{bytes, decimal}
+use Rattle.list_line.specs.Reading.{noSuchEvent, numberMissing, oneTooMany, above255, above65535, neitherRole, tooLong}
 use Rattle.list_text.specs.declared.Filed.{Filed}
-use Rattle.list_text.specs.Reading.{noSuchEvent, numberMissing, oneTooMany, above255, above65535, neitherRole, tooLong}
 use Rattle.list_text.specs.Reading.{Answer, read, refused}
 
 -- what is wrong, by the fault's number

@@ -5,7 +5,7 @@ use mathlib.Core.List.{List, [], _∷_}
 use mathlib.Core.Bool.{Bool, true, false, not, _&&_, _||_}
 use lib.Dec.{leb, eqb}
 use Rattle.rules.specs.Tests.{all}
-use Rattle.list_text.specs.Reading.{digitByte, lineFeed, parts}
+use Rattle.list_line.specs.Reading.{digitByte, lineFeed, parts}
 
 abbrev pub letterOrDigit : ℕ → Bool
 letterOrDigit b = (leb 97 b && leb b 122) || digitByte b

@@ -1,7 +1,6 @@
--- Lists of events in words: what is written, and what is read.
-pub mod Writing
+-- Lists of events in words: what is read, and the form in which they are written.
 pub mod Reading
 pub mod Form
 pub mod Answers
--- how the code reads
-pub mod Scanning
+-- how the code counts
+pub mod Counting

@@ -6,15 +6,16 @@ ghost use Prim.Native.Nat.{_≤_, _+_, _-_};
 ghost use lib.ListN.{length};
 ghost use Rattle.rules.specs.EventFile.{fourBytes};
 ghost use Rattle.text.specs.Put.{Put};
-ghost use Rattle.list_text.specs.Reading.{parts, lineFeed, readLines, lineAfter, readText};
-ghost use Rattle.list_text.specs.Scanning.{counted, Counts, linesRecords};
+ghost use Rattle.list_line.specs.Reading.{parts, lineFeed};
+ghost use Rattle.list_text.specs.Reading.{readLines, lineAfter, readText};
+ghost use Rattle.list_text.specs.Counting.{counted, Counts, linesRecords};
 use crate::Filed;
-use crate::Line;
-use crate::kinds::line_of;
 use crate::records::put_line;
 use crate::records::record_length;
-use crate::scan::Until;
-use crate::scan::scan;
+use list_line::Line;
+use list_line::line_of;
+use list_line::scan::Until;
+use list_line::scan::scan;
 use text::put_head;
 
 pub struct LineCount {

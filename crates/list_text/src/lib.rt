@@ -1,35 +1,16 @@
-// Lists of events in words: what an examiner writes and reads instead of an event file's bytes. Writing and reading are defined in
-// specs/Writing.antt and specs/Reading.antt. The numbers that a program over this crate needs, how much it must read and how much it
-// must write, are fixed here by contracts.
+// Lists of events in words: what an examiner writes and reads instead of an event file's bytes. Reading is defined in specs/Reading.antt,
+// that of one line in list_line; writing in list_writer. The numbers that a program over this crate needs, how much it must read and how
+// much it must write, are fixed here by contracts.
 ghost use Prim.Native.Nat.{ℕ, _<_};
 ghost use mathlib.Core.Path.{_≡_};
 ghost use mathlib.Core.List.{List, _++_};
 ghost use lib.ListN.{length, take, drop};
-ghost use Rattle.list_text.specs.Writing.{fileText};
 ghost use Rattle.list_text.specs.Reading.{readText};
 ghost use Rattle.list_text.specs.Answers.{filedAs, bufferAs, sentence};
 
 mod filing;
-mod kinds;
-mod operands;
 mod records;
-mod scan;
 mod sentence;
-mod words;
-mod writer;
-
-use event_file::reader::file_refusal;
-use rules::Event;
-use text::INPUT;
-use text::file_buffer;
-use text::put_file_line;
-
-// What a line holds: nothing, an event, or a fault by its number.
-pub enum Line {
-    Empty,
-    One(Event),
-    Wrong(u8),
-}
 
 // What becomes of a list: how many bytes its file has, or the line that is wrong, from 1, and its fault. A line 0 is none.
 pub struct Filed {
@@ -37,9 +18,6 @@ pub struct Filed {
     pub line: usize,
     pub fault: u8,
 }
-
-// Room for the text of every file: `text-fits`, proofs/Room.antt.
-pub const ROOM: usize = 1048576;
 
 // One byte more than a list may have: `enough-of-a-list`, proofs/Enough.antt.
 const LIST: usize = 1048577;
@@ -49,27 +27,6 @@ pub const MOST: usize = 65536;
 
 // Room for every sentence: `sentence-fits`, proofs/Sentences.antt.
 pub const SENTENCE: usize = 64;
-
-// A buffer for a file that is read. Of an input of any length it holds enough: the text of that much is the text of the whole
-// (`enough-of-a-file`, proofs/Enough.antt).
-pub fn file_input() -> [u8; INPUT]
-    ensures { λ r. ⌜ ((b : List ℕ) → fileText (take (length r) b) ≡ fileText b) ⌝ }
-{
-    file_buffer()
-}
-
-// Writes a file's events in words into a lent buffer, from its front, and gives the text's length; a refused file as the key program's
-// line. Every other byte stays.
-pub fn write_text(file: &[u8], out: &mut [u8; ROOM]) -> usize
-    ensures { λ r. ⌜ (r ≡ length (fileText (now (file .entry))))
-        × (now (out .exit) ≡ fileText (now (file .entry)) ++ drop (length (fileText (now (file .entry)))) (now (out .entry))) ⌝ }
-{
-    let refusal = file_refusal(file);
-    if refusal != 0 {
-        return put_file_line(out, 0, refusal);
-    }
-    writer::put_events(file, out)
-}
 
 fn list_zeros() -> [u8; LIST]
     ensures { λ r. ⌜ 1048576 < length r ⌝ }

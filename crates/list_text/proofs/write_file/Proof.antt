@@ -1,7 +1,8 @@
 -- Counted and refused, or counted and put at the front of a buffer that has room for every file. Lending the array as a slice brings its
 -- length.
 use denote.Ref.{now}
-use Rattle.list_text.specs.Reading.{parts, lineFeed, readText}
+use Rattle.list_line.specs.Reading.{parts, lineFeed}
+use Rattle.list_text.specs.Reading.{readText}
 use Rattle.list_text.proofs.Filings.{text-good, refused-write, sized, accepted-write}
 use native.Mathlib.Omega.{arith}
 use Rattle.list_text.proofs.write_file.Statement.{statement}

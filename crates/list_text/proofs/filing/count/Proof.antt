@@ -1,7 +1,7 @@
 -- By its length, or line by line.
 use mathlib.Core.Path.{sym, ap, _∙_}
 use denote.Ref.{now}
-use Rattle.list_text.specs.Scanning.{counted}
+use Rattle.list_text.specs.Counting.{counted}
 use Rattle.list_text.proofs.Counting.{first-part, first-part-small, too-long-text, short-text}
 use Rattle.list_text.proofs.filing.count.Statement.{statement}
 use Rattle.list_text.proofs.filing.count.Tie as tie

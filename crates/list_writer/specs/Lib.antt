@@ -1,0 +1,2 @@
+-- Events in words, as they are written.
+pub mod Writing
