@@ -12,6 +12,8 @@ use Rattle.event_file.proofs.Steps.{all-left}
 use Rattle.dispatcher.specs.declared.Machine.{Machine}
 use Rattle.dispatcher.specs.Shown.{shown, soundMachine, emptyMachine}
 use Rattle.dispatcher.proofs.Runs.{empty-machine-sound}
+use Rattle.replay.specs.Running.{Ready}
+use Rattle.replay.proofs.Inputs.{file-accepted}
 use Rattle.text.specs.Line.{lineBytes}
 use Rattle.text.specs.Put.{Put}
 use Rattle.text.proofs.Puts.{_then_, reading}
@@ -19,10 +21,11 @@ use Rattle.text.proofs.Putting.{Going, begin, more}
 use Rattle.text.proofs.Putting as putting
 use Rattle.card_sheet.specs.declared.Command.{Command}
 use Rattle.card_sheet.specs.declared.commands.Obeyed.{Obeyed}
-use Rattle.card_sheet.specs.Sheet.{blockIn, countAt, commandCount, commandFrom, commandsFrom, commandsIn, fileIn, inputRefusal}
+use Rattle.card_sheet.specs.Sheet.{blockIn, countAt, commandCount, commandFrom, commandsFrom, commandsIn, fileAt, fileIn}
+use Rattle.card_sheet.specs.Sheet.{inputRefusal}
 use Rattle.card_sheet.specs.Sheet.{Done, done, standAfter, blockText, twoLines, commandLines, atFirst}
-use Rattle.card_sheet.specs.Promises.{Ready, standOf, Obeys}
-use Rattle.card_sheet.proofs.Inputs.{file-early, file-accepted}
+use Rattle.card_sheet.specs.Promises.{standOf, Obeys}
+use Rattle.card_sheet.proofs.Inputs.{file-early}
 
 -- the lines of what a command did
 pub its-lines : {d : Done} {file after : List ℕ} {r : Obeyed} (number : ℕ) → Obeys d file after r
@@ -72,7 +75,7 @@ command-none input out {file} {block} {m} {place} {left} narrow accepted is-file
       few = omega (arith, count, narrow (countAt input));
       ready =
           record {
-            left = all-left file (ap fileRefusal is-file ∙ file-accepted input accepted);
+            left = all-left file (ap fileRefusal is-file ∙ file-accepted (fileAt input) input accepted);
             sound = ap soundMachine is-empty ∙ empty-machine-sound;
           };
       size = refl;

@@ -7,7 +7,7 @@ use mathlib.Core.List.{List, [], _∷_}
 use mathlib.Core.Bool.{Bool, true, false, cond, not, _&&_, _||_}
 use mathlib.Core.Option.{Option, none, some}
 use lib.Dec.{ltb, eqb}
-use lib.ListN.{length, getD, set, take, drop, length-set, length-take}
+use lib.ListN.{length, getD, set, length-set}
 use lib.Seq.{getD-set-same, getD-set-other, set-out}
 use borrow.Author.Tests.{ltb-true, ltb-false}
 use Rattle.rules.specs.declared.Event.{Event}
@@ -15,12 +15,13 @@ use Rattle.rules.specs.declared.Event.the-variants.{Wake}
 use Rattle.rules.specs.State.{State}
 use Rattle.rules.specs.Sound.{sound}
 use Rattle.rules.specs.Events.{Answered, refused, offerIf, offer}
-use Rattle.rules.specs.Lists.{Ranged, AllRanged, run, after, linksInAll}
+use Rattle.rules.specs.Lists.{Ranged, AllRanged, run, after}
 use Rattle.rules.specs.EventFile.{Bytes}
 use Rattle.rules.proofs.Basics.Views.{Two, yes-true, no-false, two, Same, equal, different, same}
-use Rattle.rules.proofs.Bounds.{AllNarrow, most, offer-most, run-narrow, run-length}
-use Rattle.rules.proofs.Demands.{accepted-sound, after-sound}
+use Rattle.rules.proofs.Bounds.{most, offer-most, run-narrow}
+use Rattle.rules.proofs.Demands.{accepted-sound}
 use Rattle.rules.proofs.Soundness.Places.{sound-of}
+use Rattle.replay.proofs.Within.{run-within}
 use Rattle.bridge_card.specs.Bits.{bit, numberOf, byteOf}
 use Rattle.bridge_card.specs.Card.{isBlock, isPending, threadOf, readRefusal, writeRefusal, raiseRefusal, readAfter, read}
 use Rattle.bridge_card.specs.Card.{changedAfter, written, write, raised, raise, lineToTake, lineCleared, unchanged, blockAfter}
@@ -149,22 +150,6 @@ poll-fine b s h = by (isBlock b) (lineToTake b)
     by true (some line) = woke (threadOf b line)
     by false o = kept 20 (omega arith)
 
--- the links of a list
-links-bound : (l : List Answered) → AllNarrow l → linksInAll l ≤ 65535 * length l
-unfolding linksInAll
-links-bound [] x = omega arith
-links-bound (a ∷ rest) x = omega (arith, x .0 .links, links-bound rest (x .1))
-
-ranged-front : (n : ℕ) (es : List Event) → AllRanged es → AllRanged (take n es)
-ranged-front zero es f = tt
-ranged-front (suc n) [] f = tt
-ranged-front (suc n) (e ∷ es) f = (f .0, ranged-front n es (f .1))
-
-ranged-rest : (n : ℕ) (es : List Event) → AllRanged es → AllRanged (drop n es)
-ranged-rest zero es f = f
-ranged-rest (suc n) [] f = tt
-ranged-rest (suc n) (e ∷ es) f = ranged-rest n es (f .1)
-
 -- between two commands
 pub record Steady (n : ℕ) (w : Stand) : Type 0 where
   pub block : Block n (w .block)
@@ -214,18 +199,11 @@ short {n} c w small-a small-b x = by (eqb (c .op) 0) (eqb (c .op) 1) (eqb (c .op
 
     runs : Short n (afterEvents (c .a) w)
     runs =
-        let es = take (c .a) (w .events) in
-        let front = ranged-front (c .a) (w .events) (x .ranged) in
-        let narrow = run-narrow es (w .state) front (sound-of (w .state) (x .sound-now)) in
+        let ran = run-within (c .a) (w .events) (w .state) small-a (x .ranged) (x .sound-now) in
         record {
-          steady =
-              record {
-                block = x .block;
-                sound-now = after-sound es (w .state) front (x .sound-now);
-                ranged = ranged-rest (c .a) (w .events) (x .ranged);
-              };
+          steady = record { block = x .block; sound-now = ran .sound-after; ranged = ran .ranged };
           refusal = omega arith;
-          links = omega (arith, links-bound (run es (w .state)) narrow, run-length es (w .state), length-take (c .a) (w .events));
+          links = ran .links;
           byte = omega arith;
         }
 

@@ -1,6 +1,5 @@
 -- Why what is put is what the definitions say.
 pub mod Inputs
-pub mod Dispatching
 pub mod Printing
 pub mod Obeying
 pub mod Commanding

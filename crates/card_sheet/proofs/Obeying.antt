@@ -16,9 +16,10 @@ use Rattle.bridge_card.specs.Card.{read, Changed, write, raise, Polled, pollIf,
 use Rattle.bridge_card.specs.Promises.{pollOf, Polls}
 use Rattle.bridge_card.proofs.Following.{polled-sound}
 use Rattle.card_sheet.specs.declared.Command.{Command}
-use Rattle.card_sheet.specs.declared.running.Ran.{Ran}
+use Rattle.replay.specs.declared.Ran.{Ran}
+use Rattle.replay.specs.Running.{Ready, RanOn}
 use Rattle.card_sheet.specs.Sheet.{Stand, Done, afterRead, afterChange, afterPoll, afterEvents, done}
-use Rattle.card_sheet.specs.Promises.{Ready, RanOn, standOf, Obeys}
+use Rattle.card_sheet.specs.Promises.{standOf, Obeys}
 
 -- the cases of `done`
 module _ (c : Command) (w : Stand) where

@@ -2,29 +2,24 @@
 -- 1,022 bytes, and a file with more than 65,536 is refused by its length alone.
 use Prim.Native.Nat.{ℕ, zero, suc, _+_, _*_, _≤_, _<_}
 use native.Mathlib.Omega.{arith}
-use mathlib.Core.Path.{_≡_, refl, sym, ap, _∙_}
+use mathlib.Core.Path.{_≡_, refl}
 use mathlib.Core.List.{List, [], _∷_}
-use mathlib.Core.Bool.{Bool, true, false}
-use lib.Dec.{ltb}
-use lib.ListN.{length, getD, take, drop, length-append, length-drop}
-use lib.Seq.{take-all, length-take-le}
-use borrow.Author.Tests.{ltb-true, ltb-false}
-use Rattle.rules.specs.Refusals.{_gives_else_}
+use lib.ListN.{length, getD, take, drop, length-append}
 use Rattle.rules.specs.EventFile.{Bytes, eventsOf}
 use Rattle.rules.specs.Key.{bytes, line, fileLine}
-use Rattle.rules.proofs.Basics.Views.{Two, yes-true, no-false, two}
-use Rattle.rules.proofs.Bounds.{runs-narrow, refusal-small}
+use Rattle.rules.proofs.Bounds.{runs-narrow}
 use Rattle.rules.proofs.Demands.{empty-sound}
 use Rattle.rules.proofs.Soundness.Places.{sound-of}
 use Rattle.rules.proofs.Files.Records.{all-ranged}
 use Rattle.rules.proofs.Files.Inverse.{events-fit}
 use Rattle.rules.proofs.Files.ReadThenWritten.{bytes-take, bytes-drop}
-use Rattle.rules.proofs.Files.Refusing.{refuses-long}
 use Rattle.text.proofs.DigitCounts.{three-long, eight-long, file-line-length}
 use Rattle.text.proofs.Lengths.{line-within}
+use Rattle.text.proofs.Enough.{enough-of-bytes}
+use Rattle.replay.proofs.Inputs.{refused-small, refused-long}
 use Rattle.card_sheet.specs.Sheet.{countAt, commandCount, commandFrom, commandsFrom, fileAt, fileIn, inputRefusal}
 use Rattle.card_sheet.specs.Sheet.{Stand, Done, done, standAfter, blockText, twoLines, commandLines, atFirst, cardAfter, card}
-use Rattle.card_sheet.proofs.Inputs.{whole, file-early, block-length}
+use Rattle.card_sheet.proofs.Inputs.{file-early, block-length}
 use Rattle.card_sheet.proofs.Fitting.{Steady, Short, short}
 
 -- the second line
@@ -75,14 +70,6 @@ begins-steady input narrow accepted =
       ranged = all-ranged (eventsOf (fileIn input)) (events-fit (fileIn input) (bytes-drop (fileAt input) input narrow));
     }
 
-refused-short : (input : List ℕ) → inputRefusal input ≤ 16
-unfolding inputRefusal
-refused-short input = by (ltb (length input) (fileAt input)) (refusal-small (fileIn input))
-  where
-    by : (q : Bool) {k : ℕ} → k ≤ 16 → (q gives 14 else k) ≤ 16
-    by true h = omega arith
-    by false h = h
-
 fits-after : (n : ℕ) (input : List ℕ) → Bytes input → inputRefusal input ≡ n → length (cardAfter n input) ≤ 269790
 fits-after zero input narrow h =
     let count = narrow (countAt input) in
@@ -91,7 +78,7 @@ fits-after zero input narrow h =
     (begins-steady input narrow h) in
     omega (arith, lines, count)
 fits-after (suc n) input narrow h =
-    omega (arith, file-line-length (suc n) (omega (arith, refused-short input, h)))
+    omega (arith, file-line-length (suc n) (omega (arith, refused-small (fileAt input) input, h)))
 
 pub card-fits : (input : List ℕ) → Bytes input → length (card input) ≤ 269790
 unfolding card
@@ -101,20 +88,8 @@ card-fits input narrow = fits-after (inputRefusal input) input narrow refl
 long-card : (input : List ℕ) → Bytes input → 66558 < length input → card input ≡ fileLine 14
 unfolding card
 long-card input narrow h =
-    let early = file-early input narrow in
-    let refused : inputRefusal input ≡ 14 =
-    whole input (omega arith) ∙ refuses-long (fileIn input) (omega (arith, length-drop (fileAt input) input)) in
-    rw refused refl
+    let refused : inputRefusal input ≡ 14 = refused-long (fileAt input) input (file-early input narrow) h in rw refused refl
 
 -- so what follows the first 66,559 bytes changes nothing
 pub enough-for-card : (n : ℕ) → 66558 < n → (input : List ℕ) → Bytes input → card (take n input) ≡ card input
-enough-for-card n h input narrow = by (two (ltb (length input) n))
-  where
-    by : Two (ltb (length input) n) → card (take n input) ≡ card input
-    by (yes-true short) =
-        let less : length input < n = ltb-true (length input) n short in
-        ap card (take-all n input (omega arith))
-    by (no-false long) =
-        let more : n ≤ length input = ltb-false (length input) n long in
-        long-card (take n input) (bytes-take n input narrow) (omega (arith, length-take-le n input more))
-        ∙ sym (long-card input narrow (omega arith))
+enough-for-card = enough-of-bytes card 66558 (fileLine 14) long-card

@@ -3,26 +3,11 @@ use Prim.Native.Nat.{ℕ}
 use mathlib.Core.Path.{_≡_}
 use mathlib.Core.List.{List}
 use mathlib.Core.Bool.{true}
-use lib.ListN.{take, drop}
-use Rattle.rules.specs.Lists.{run, after, linksInAll}
 use Rattle.event_file.specs.Left.{eventsAt, Left}
 use Rattle.dispatcher.specs.declared.Machine.{Machine}
 use Rattle.dispatcher.specs.Shown.{shown, soundMachine}
 use Rattle.card_sheet.specs.declared.commands.Obeyed.{Obeyed}
-use Rattle.card_sheet.specs.declared.running.Ran.{Ran}
 use Rattle.card_sheet.specs.Sheet.{Stand, Done, done}
-
--- events are left from the offset on, and the machine is sound
-pub record Ready (file : List ℕ) (offset : ℕ) (m : Machine) : Type 0 where
-  pub left : Left file offset (eventsAt offset file)
-  pub sound : soundMachine m ≡ true
-
--- the next n of the events that are left have been dispatched
-pub record RanOn (file : List ℕ) (offset : ℕ) (m : Machine) (n : ℕ) (r : Ran) : Type 0 where
-  pub state : shown (r .machine) ≡ after (take n (eventsAt offset file)) (shown m)
-  pub links : r .links ≡ linksInAll (run (take n (eventsAt offset file)) (shown m))
-  pub left : Left file (r .offset) (drop n (eventsAt offset file))
-  pub sound : soundMachine (r .machine) ≡ true
 
 -- what the code holds between two commands
 abbrev pub standOf : List ℕ → List ℕ → ℕ → Machine → Stand

@@ -2,15 +2,15 @@
 use Prim.Native.Nat.{ℕ, zero, suc, _+_, _*_}
 use mathlib.Core.List.{List, [], _∷_, _++_}
 use mathlib.Core.Bool.{cond}
-use lib.Dec.{ltb, eqb}
-use lib.ListN.{length, getD, take, drop}
+use lib.Dec.{eqb}
+use lib.ListN.{getD, take, drop}
 use Rattle.rules.specs.declared.Event.{Event}
 use Rattle.rules.specs.State.{State, empty}
-use Rattle.rules.specs.Refusals.{_gives_else_}
 use Rattle.rules.specs.Events.{Answered}
-use Rattle.rules.specs.Lists.{run, after, linksInAll}
-use Rattle.rules.specs.EventFile.{fileRefusal, eventsOf}
+use Rattle.rules.specs.EventFile.{eventsOf}
 use Rattle.rules.specs.Key.{bytes, decimal, line, fileLine}
+use Rattle.replay.specs.Behind.{refusalBehind}
+use Rattle.replay.specs.Running.{afterRun}
 use Rattle.bridge_card.specs.declared.Reading.{Reading}
 use Rattle.bridge_card.specs.Card.{read, Changed, write, raise, Polled, poll}
 use Rattle.card_sheet.specs.declared.Command.{Command}
@@ -45,8 +45,8 @@ fileIn input = drop (fileAt input) input
 
 -- "An input cut short before the file prints `file 14`; a refused file prints its `file` line." What is not there counts as 0, so an input
 -- that is cut short ends before its file would begin.
-unfoldable pub inputRefusal : List ℕ → ℕ
-inputRefusal input = ltb (length input) (fileAt input) gives 14 else fileRefusal (fileIn input)
+abbrev pub inputRefusal : List ℕ → ℕ
+inputRefusal input = refusalBehind (fileAt input) input
 
 -- between two commands: the block, the machine, and the events of the file that are left
 pub record Stand : Type 0 where
@@ -79,9 +79,6 @@ afterPoll p w = record { block = p .block; answer = p .answer; events = w .event
 
 -- "4 and above runs the next a events of the file (fewer where it ends), refused or not", "refusal (0 for op 4 and above)", "links
 -- followed .. by these events in all"
-abbrev pub afterRun : List Event → State → Answered
-afterRun es s = record { state = after es s; refusal = 0; links = linksInAll (run es s) }
-
 abbrev pub afterEvents : ℕ → Stand → Done
 afterEvents n w =
     record {

@@ -1,13 +1,14 @@
 // "Op 0 reads register a; 1 writes b to register a; 2 raises line a; 3 polls; 4 and above runs the next a events of the file".
 ghost use Rattle.card_sheet.specs.Sheet.{done};
-ghost use Rattle.card_sheet.specs.Promises.{Ready, standOf, Obeys};
+ghost use Rattle.card_sheet.specs.Promises.{standOf, Obeys};
+ghost use Rattle.replay.specs.Running.{Ready};
 use crate::Command;
-use crate::running::run_events;
 use bridge_card::poll;
 use bridge_card::raise_line;
 use bridge_card::read_register;
 use bridge_card::write_register;
 use dispatcher::Machine;
+use replay::run_events;
 
 // The machine, where the next event begins, and what the two lines say.
 pub(crate) struct Obeyed {

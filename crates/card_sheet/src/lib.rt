@@ -11,7 +11,6 @@ ghost use Rattle.card_sheet.specs.Sheet.{card};
 mod commands;
 mod lines;
 mod reading;
-mod running;
 
 use lines::put_commands;
 use reading::copy_block;

@@ -6,7 +6,7 @@ ghost use lib.ListN.{length, drop};
 ghost use Rattle.card_sheet.specs.Sheet.{countAt, commandCount, commandFrom, fileAt, inputRefusal, blockIn};
 use crate::Command;
 use event_file::byte_at;
-use event_file::reader::file_refusal;
+use replay::refusal_behind;
 use text::put_bytes;
 
 // Where the byte k stands.
@@ -45,10 +45,7 @@ pub(crate) fn input_refusal(input: &[u8]) -> u8
     ensures { λ r. ⌜ r ≡ inputRefusal (now (input .entry)) ⌝ }
 {
     let at = file_at(input);
-    if input.len() < at {
-        return 14;
-    }
-    file_refusal(&input[at..])
+    refusal_behind(input, at)
 }
 
 // The block's bytes, at the front of a buffer with room for the largest.

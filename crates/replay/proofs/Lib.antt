@@ -1,2 +1,5 @@
--- The law of a turn of a file.
+-- The law of a turn of a file, and of some turns; what programs that replay a file know alike.
 pub mod Turns
+pub mod Dispatching
+pub mod Inputs
+pub mod Within

@@ -8,10 +8,12 @@ use lib.Dec.{ltb}
 use lib.ListN.{length, take, length-drop, replicate, length-replicate}
 use lib.Seq.{take-all, length-take-le}
 use borrow.Author.Tests.{ltb-true, ltb-false, le-ltb}
+use Rattle.rules.specs.EventFile.{Bytes}
 use Rattle.rules.specs.Key.{fileLine, key, plainKey}
 use Rattle.rules.specs.Reason.{fileIn, reason, reasonRefusal}
 use Rattle.rules.specs.Shares.{shares}
 use Rattle.rules.proofs.Basics.Views.{Two, yes-true, no-false, two}
+use Rattle.rules.proofs.Files.ReadThenWritten.{bytes-take}
 use Rattle.rules.proofs.Files.Refusing.{refuses-long}
 
 module _ {A : Type 0} (f : List ℕ → A) (most : ℕ) where
@@ -30,6 +32,19 @@ module _ {A : Type 0} (f : List ℕ → A) (most : ℕ) where
   pub enough-for-one : (a : A) → ((b : List ℕ) → most < length b → f b ≡ a) → (n : ℕ) → most < n → (b : List ℕ) → f (take n b) ≡ f b
   enough-for-one a long =
       enough (λ b n more fits. long (take n b) (omega (arith, length-take-le n b fits)) ∙ sym (long b (omega arith)))
+
+  -- the same of lists of bytes
+  pub enough-of-bytes : (a : A) → ((b : List ℕ) → Bytes b → most < length b → f b ≡ a) → (n : ℕ) → most < n → (b : List ℕ) → Bytes b
+      → f (take n b) ≡ f b
+  enough-of-bytes a long n more b narrow = by (two (ltb (length b) n))
+    where
+      by : Two (ltb (length b) n) → f (take n b) ≡ f b
+      by (yes-true h) =
+          let short : length b < n = ltb-true (length b) n h in
+          ap f (take-all n b (omega arith))
+      by (no-false h) =
+          let fits : n ≤ length b = ltb-false (length b) n h in
+          long (take n b) (bytes-take n b narrow) (omega (arith, length-take-le n b fits)) ∙ sym (long b narrow (omega arith))
 
 -- a file of more than 65,536 bytes is refused, and its key is that refusal's line
 long-key : (file : List ℕ) → 65536 < length file → key file ≡ fileLine 14

@@ -8,8 +8,9 @@ use lib.Seq.{take-at, length-take-le}
 use denote.Ref.{now}
 use borrow.Author.Needs.{needs}
 use Rattle.text.proofs.Puts.{at-front, reading}
-use Rattle.card_sheet.specs.Sheet.{blockIn}
-use Rattle.card_sheet.proofs.Inputs.{part-from, not-short, refused-card, accepted-card}
+use Rattle.replay.proofs.Inputs.{part-from, not-short}
+use Rattle.card_sheet.specs.Sheet.{blockIn, fileAt}
+use Rattle.card_sheet.proofs.Inputs.{refused-card, accepted-card}
 use Rattle.card_sheet.proofs.Room.{card-fits}
 use Rattle.card_sheet.proofs.write_card.Statement.{statement}
 use Rattle.card_sheet.proofs.write_card.Tie as tie
@@ -39,7 +40,7 @@ sub-put-commands c =
     let tested = found .before .before .before .before in
     let read = tested .before in
     let b = now (read .before .before .args .input) in
-    let whole = not-short b (sym (read .input-refusal .ensures) ∙ tested .if1 .left) in
+    let whole = not-short (fileAt b) b (sym (read .input-refusal .ensures) ∙ tested .if1 .left) in
     omega (arith, found .file-at .ensures, whole)
 
 part-put-commands-start : tie.Need-part-put-commands-start
@@ -48,7 +49,7 @@ part-put-commands-start c =
     let tested = found .before .before .before .before in
     let read = tested .before in
     let b = now (read .before .before .args .input) in
-    let whole = not-short b (sym (read .input-refusal .ensures) ∙ tested .if1 .left) in
+    let whole = not-short (fileAt b) b (sym (read .input-refusal .ensures) ∙ tested .if1 .left) in
     omega (arith, found .file-at .ensures, whole)
 
 part-put-commands-end : tie.Need-part-put-commands-end
@@ -72,7 +73,7 @@ put-commands-requires c κs =
     let n = copied .copy-block .result in
     let front = copied .copy-block .ensures in (
       sym (read .input-refusal .ensures) ∙ tested .if1 .left,
-      part-from b (found .file-at .result) ∙ ap (λ (at : ℕ). drop at b) (found .file-at .ensures),
+      part-from (found .file-at .result) b ∙ ap (λ (at : ℕ). drop at b) (found .file-at .ensures),
       ap (take n) (front .1) ∙ take-at (blockIn b) _ n (sym (front .0)),
     )
 

@@ -6,7 +6,9 @@ use lib.ListN.{getD, take, drop}
 use denote.Ref.{now}
 use borrow.Author.Needs.{needs}
 use Rattle.text.proofs.Puts.{at-front, reading}
-use Rattle.card_sheet.proofs.Inputs.{not-short, block-length}
+use Rattle.replay.proofs.Inputs.{not-short}
+use Rattle.card_sheet.specs.Sheet.{fileAt}
+use Rattle.card_sheet.proofs.Inputs.{block-length}
 use Rattle.card_sheet.proofs.reading.copy_block.Statement.{statement}
 use Rattle.card_sheet.proofs.reading.copy_block.Tie as tie
 
@@ -19,7 +21,7 @@ part-put-bytes-start c = search needs
 part-put-bytes-end : tie.Need-part-put-bytes-end
 part-put-bytes-end c =
     let start = c .before .before .before .before in
-    omega (arith, c .before .count-at .ensures, not-short (now (start .args .input)) (start .pre .0))
+    omega (arith, c .before .count-at .ensures, not-short (fileAt (now (start .args .input))) (now (start .args .input)) (start .pre .0))
 
 same-length : tie.Need-same-length
 same-length c = search needs

@@ -4,10 +4,10 @@ use native.Mathlib.Omega.{arith}
 use mathlib.Core.Path.{sym, ap, _∙_}
 use Rattle.rules.specs.EventFile.{event}
 use Rattle.event_file.specs.Answers.{shownFound}
-use Rattle.card_sheet.proofs.Dispatching.{Along, begin, onward, all-gone, ended}
+use Rattle.replay.proofs.Dispatching.{Along, begin, onward, all-gone, ended}
 use borrow.Author.Needs.{needs}
-use Rattle.card_sheet.proofs.running.run_events.Statement.{statement}
-use Rattle.card_sheet.proofs.running.run_events.Tie as tie
+use Rattle.replay.proofs.run_events.Statement.{statement}
+use Rattle.replay.proofs.run_events.Tie as tie
 
 abbrev Inv-loop : tie.InvT-loop
 Inv-loop file from count machine₀ offset₀ links₀ left₀ machine offset links left =

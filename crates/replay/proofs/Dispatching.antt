@@ -30,8 +30,8 @@ use Rattle.dispatcher.specs.Shown.{shown, soundMachine}
 use Rattle.dispatcher.specs.Promise.{Answers}
 use Rattle.dispatcher.proofs.Runs.{dispatched-sound}
 use Rattle.dispatcher.proofs.Stored.{sound-shown}
 use Rattle.replay.proofs.Turns.{turn-answer}
-use Rattle.card_sheet.specs.Promises.{Ready, RanOn}
+use Rattle.replay.specs.Running.{Ready, RanOn}
 
 -- the links of one list and then another
 pub links-append : (xs ys : List events.Answered) → linksInAll (xs ++ ys) ≡ linksInAll xs + linksInAll ys
