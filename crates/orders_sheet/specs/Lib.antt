@@ -1,0 +1,3 @@
+-- What the program `orders` reads and prints, and what the code promises.
+pub mod Sheet
+pub mod Promises
