@@ -14,7 +14,7 @@ repository="$work/the repository"
 outside="$work/another folder"
 mkdir -p "$repository/tests" "$outside/samples" "$work/bin" "$work/few" "$work/more" "$work/built"
 cp -r "$here/../key" "$here/../check" "$here/../crates.txt" "$here/../samples" "$here/../tools" "$repository"
-cp -r "$here/office_tables" "$here/cards" "$repository/tests"
+cp -r "$here/office_tables" "$here/cards" "$here/order_lists" "$repository/tests"
 ln -s "$repository/key" "$work/bin/first"
 ln -s first "$work/bin/key"
 ln -s "$repository/check" "$work/bin/check"
@@ -26,7 +26,7 @@ for tool in head tr wc sed; do ln -s "$(command -v $tool)" "$work/more/$tool"; d
 # The programs that rt "builds" are in $work/built; while $work/slow is there, proving does not end.
 originals() {
     cp "$program" "$work/built/key"
-    cp "$(dirname "$program")"/{list_to_file,plain_key,reason,file_to_list,shares,shorten,ranking,card} "$work/built"
+    cp "$(dirname "$program")"/{list_to_file,plain_key,reason,file_to_list,shares,shorten,ranking,card,orders} "$work/built"
 }
 originals
 cat >"$work/bin/rt" <<END
@@ -96,7 +96,7 @@ run "a full device" 1 bash -c 'key "a file" >/dev/full'
 run "a closed standard output" 1 bash -c 'key "a file" >&-'
 run "wrong use" 2 key --none
 run "wrong use with --both" 2 key --both --none
-for name in plain_key reason file_to_list shares shorten ranking card; do
+for name in plain_key reason file_to_list shares shorten ranking card orders; do
     [ ! -e "$repository/target/bin/$name" ] || wrong "$name is built although nobody asked for it"
 done
 run "help without rt" 0 env PATH="$work/few" "$repository/key" --help
@@ -408,10 +408,10 @@ printf 'block 1 0 1 0 0 0 0 0 0 0 0 0\nrun 7\nraise 0\npoll\nread 2\n%1048520s' 
 run "card, the longest list" 0 key --card "longest card" samples/k1; prints_lines "${card[@]}"; says_nothing
 # Before anything is proved: what is wrong with a card list.
 rm -rf "$repository/target"
-wrong_card() { # SENTENCE [CARD]
-    local list=${2:-wrong card}
-    run "card, $list: $1" 1 key --card "$list" samples/k1; prints /dev/null; says_only "key: $list: $1"
+wrong_commands() { # OPTION SENTENCE LIST
+    run "$1, $3: $2" 1 key "$1" "$3" samples/k1; prints /dev/null; says_only "key: $3: $2"
 }
+wrong_card() { wrong_commands --card "$1" "${2:-wrong card}"; } # SENTENCE [CARD]
 faulty_card() { # WRONG LINE
     printf '# line 1\r\n\nblock 1 0 255 0 0 0 0 0 0 0 0 0\n%s\npoll\nfrob\n' "$2" >"wrong card"
     wrong_card "line 4: $1"
@@ -465,6 +465,109 @@ for name in card list_to_file; do
 done
 echo >>"$repository/target/bin/card"
 run "a changed card, not asked for" 0 key "a file"; prints "$work/k1.key"
+
+# Abort orders. Of the bridge, here samples/k1, the first nine events let thread 11 run for thread 1, whose call the take breaks.
+printf 'run 9\nabort 1 7\nwithdraw 1 7\ntake\n' >"some orders"
+orders=("1 ok 0 11 1 2 0" "2 ok 0 11 1 2 0" "3 no 27 11 1 2 0" "4 ok 0 1 1 0 0")
+{
+    printf '# the second processor\r\n\r\n  run 9 \t# of the \374\200bridge\r\nabort\t1   7#pump log\r\n\t\r\n'
+    printf '#\r\nwithdraw 1\t7\r\n \ttake\r'
+} >"loose orders"
+rm -rf "$repository/target"
+run "orders, an event file, first use" 0 key --orders "some orders" samples/k1; prints_lines "${orders[@]}"
+[ "$(ls "$repository/target/bin" | tr '\n' ' ')" = "list_to_file orders " ] || wrong "built are $(ls "$repository/target/bin")"
+run "orders, unchanged" 0 key samples/k1 --orders "some orders"; prints_lines "${orders[@]}"; says_nothing
+run "orders, a list in words" 0 key --orders "some orders" "$repository/samples/bridge.txt"; prints_lines "${orders[@]}"; says_nothing
+run "orders, standard input" 0 key --orders "some orders" - <samples/k1; prints_lines "${orders[@]}"; says_nothing
+run "orders, words on standard input" 0 key --orders "some orders" - <"$repository/samples/bridge.txt"; prints_lines "${orders[@]}"
+says_nothing
+run "orders, a list that can be read once" 0 bash -c 'key --orders <(cat "some orders") samples/k1 "a file"'
+[ "$(sed -n 2,5p "$work/out")" = "$(printf '%s\n' "${orders[@]}")" ] && [ "$(wc -l <"$work/out")" -eq 10 ] ||
+    wrong "it printed $(cat "$work/out")"
+for locale in C C.UTF-8; do
+    run "orders, a loose list, $locale" 0 env LC_ALL=$locale key --orders "loose orders" samples/k1; prints_lines "${orders[@]}"
+    says_nothing
+done
+readme --orders
+shown=${example[0]-}
+shown=${shown#* --orders }
+awk '/^## / { inside = $0 == "## Abort orders" } inside && /^    / { on = 1; sub(/^ */, ""); print } on && !NF { exit }' \
+    "$here/../README.md" >"$work/lines"
+cmp -s "$work/lines" "$repository/${shown%% *}" || wrong "README shows the order list $(cat "$work/lines")"
+run "orders, samples, their list in the caller's folder" 0 key --orders "some orders"
+[ "$(grep -A 1 '^samples/' "$work/out" | grep -c '^1 ok ')" -eq "$(ls "$repository/samples" | wc -l)" ] || wrong "not every sample"
+for list in /dev/null "no orders"; do
+    printf '# nothing\n\n#' >"no orders"
+    run "orders, no command, $list" 0 key --orders "$list" samples/k1; prints /dev/null; says_nothing
+    run "orders, no command, $list, a refused file" 0 key --orders "$list" - </dev/null; prints "$work/file14"; says_nothing
+done
+run "orders, several files, some of them refused" 0 key --orders "some orders" "role 2" samples/k1 "version 2"
+prints_lines "role 2" "file 16" samples/k1 "${orders[@]}" "version 2" "file 15"; says_nothing
+for file in "too long" "far too long" /dev/null; do
+    run "orders, $file" 0 key --orders "some orders" "$file"; prints_lines "file 14"; says_nothing
+done
+run "orders, a list of events that cannot be read" 1 key --orders "some orders" "wrong list"; prints /dev/null
+says_only "key: wrong list: line 3: no such event"
+run "orders, a missing file among others" 1 key --orders "some orders" none samples/k1; prints_lines samples/k1 "${orders[@]}"
+says_only "key: none: no such file"
+{ cat "some orders"; printf '%1048542s' ''; } >"longest orders"
+run "orders, the longest list" 0 key --orders "longest orders" samples/k1; prints_lines "${orders[@]}"; says_nothing
+# Before anything is proved: what is wrong with an order list.
+rm -rf "$repository/target"
+wrong_orders() { wrong_commands --orders "$1" "${2:-wrong orders}"; } # SENTENCE [ORDERS]
+faulty_orders() { # WRONG LINE
+    printf '# line 1\r\n\nrun 9\n%s\ntake\nfrob\n' "$2" >"wrong orders"
+    wrong_orders "line 4: $1"
+}
+echo >>"longest orders"
+wrong_orders "too long, an order list in words has up to 1,048,576 bytes" "longest orders"
+for line in frob Abort TAKE 4 '*' 'create 0 client' 'block 1' poll $'\357\273\277take' $'take\rtake' 'takes 1'; do
+    faulty_orders "no such command" "$line"
+done
+for word in x 01 00 -1 1.5 0x1 '*' '\1' '1;' 256 4294967296 18446744073709551617; do
+    faulty_orders "'$word' is no number from 0 to 255 without leading zeros" "abort $word x 1"
+done
+for word in x 01 00 -1 1,000 0x1 '*' 4294967296 10000000000 18446744073709551617; do
+    faulty_orders "'$word' is no number from 0 to 4,294,967,295 without leading zeros" "withdraw 255 $word 1"
+done
+for line in "abort 256" "withdraw 256 7" "run 256"; do
+    faulty_orders "'256' is no number from 0 to 255 without leading zeros" "$line"
+done
+for line in abort "abort 1" withdraw "withdraw 1" run "abort 1 # 7" "run #9"; do faulty_orders "a number is missing" "$line"; done
+for line in "abort 1 7 0" "withdraw 1 4294967295 x" "take 0" "take x" "run 9 01"; do faulty_orders "one too many" "$line"; done
+printf 'abort 1 7\ntake\nabort 1' >"wrong orders"; wrong_orders "line 3: a number is missing"
+printf 'take\n\0' >"wrong orders"; wrong_orders "is no order list in words, it has a control byte"
+wrong_orders "is no order list in words, it has a control byte" "a file"
+wrong_orders "line 1: no such command" "$repository/samples/bridge.txt"
+wrong_orders "line 1: no such command" "a card"
+wrong_orders "no such file" none
+wrong_orders "is a folder" .
+[ ! -e "$repository/target" ] || wrong "something is proved for a wrong list"
+run "orders, a full device" 1 bash -c 'key --orders "some orders" samples/k1 >/dev/full'; says "a write failed"
+run "orders, a closed standard input" 1 bash -c 'key --orders "some orders" - <&-'; says_only "key: -: is closed"
+run "orders, a closed standard error" 0 bash -c 'key --orders "some orders" samples/k1 2>&-'; prints_lines "${orders[@]}"
+run "orders, help behind it" 0 env PATH="$work/few" "$repository/key" --orders "some orders" --help
+prints_part "--orders ORDERS [FILE..]"
+run "orders, no rt" 1 env PATH="$work/few:$work/more" "$repository/key" --orders "some orders" samples/k1
+says_only "key: needs the Rattle kit: there is no rt on the PATH"
+run "no --orders behind --" 1 key -- --orders; says_only "key: --orders: no such file"
+misused "--orders: the order list is missing" samples/k1 --orders
+misused "--orders: the order list is missing" --orders "" samples/k1
+misused "--orders: an order list is a file, standard input is for FILE" --orders - samples/k1
+misused "--orders is there twice" --orders "some orders" --orders "some orders" samples/k1
+misused "--both and --orders do not go together" --orders "some orders" --both
+misused "--why and --orders do not go together" --orders none --why 8 samples/k1
+misused "--shares and --orders do not go together" --shares --orders "some orders"
+misused "--shorten and --orders do not go together" --orders "some orders" --shorten 8 samples/k1
+misused "--interval and --orders do not go together" --interval 8 --orders "some orders" "a table"
+misused "--card and --orders do not go together" --orders "some orders" --card "a card" samples/k1
+misused "no option --orders=a" --orders=a samples/k1
+for name in orders list_to_file; do
+    printf '#!/bin/sh\necho 0\n' >"$repository/target/bin/$name"
+    run "orders, $name changed" 0 key --orders "some orders" samples/k1; prints_lines "${orders[@]}"; says "building it again"
+done
+echo >>"$repository/target/bin/orders"
+run "a changed orders, not asked for" 0 key "a file"; prints "$work/k1.key"
 
 # Instead of NAME a program that runs it, with more behind that.
 replace() { # NAME MORE
@@ -559,6 +662,26 @@ echo poll >>many
 wrong_card "line 257: more than 255 commands" many
 { echo; echo "block $(seq -s ' ' 255) 0"; } >many
 wrong_card "line 2: a block of more than 255 bytes" many
+replace orders '; echo "cannot be written" >&2'
+run "an orders that says something" 1 key --orders "some orders" samples/k1
+says "^key: samples/k1: the program orders ended with: cannot be written$"
+replace orders '; kill -SEGV $$'
+run "an orders that crashes after printing" 1 key --orders "some orders" samples/k1; says "the program orders ended with: .*status 139"
+# One that prints the bytes that it gets: the commands and the file.
+printf '#!/bin/sh\nod -An -v -tu1 -w9999 | tr -s " "\n' >"$work/built/orders"
+rm -rf "$repository/target"
+printf 'take\nrun 7\nabort 8 9\nwithdraw 255 4294967295\nabort 0 0\nwithdraw 1 16909060\n' >"bytes orders"
+run "orders, the bytes" 0 key --orders "bytes orders" "no event" - < <(echo reply)
+bytes=" 6 2 0 0 0 0 0 3 7 0 0 0 0 0 8 0 0 0 9 1 255 255 255 255 255 0 0 0 0 0 0 1 1 1 2 3 4"
+prints_lines "no event" "$bytes 0 0 0 1 1" - "$bytes 0 0 0 3 1 1 4"
+for many in 0 1 255; do
+    seq "$many" | sed 's/.*/abort & 6500&/' >many
+    run "orders, $many commands" 0 key --orders many "no event"
+    prints_lines "$(awk -v many="$many" 'BEGIN { printf " %d", many }
+        { printf " 0 %d 0 %d %d %d", $2, $3 / 65536, $3 / 256 % 256, $3 % 256 } END { print " 0 0 0 1 1" }' many)"; says_nothing
+done
+echo take >>many
+wrong_orders "line 256: more than 255 commands" many
 replace shorten '; sleep 1.5'
 key --shorten 8 "a question" >/dev/null 2>&1 # builds it
 run "a shorten that takes longer than a second" 0 key --shorten 8 "a question"; prints_lines "${shorter[@]}"
@@ -594,7 +717,7 @@ run "after an interruption" 0 key "a file"; prints "$work/k1.key"
 
 # ./check: rt ci says the words given and ends with the status given; the outside tests end as told.
 ci() { printf '%s\n' "$2" >"$work/ci"; echo "$1" >"$work/ci.status"; } # STATUS WORDS
-names="sequences compare command wakes reasons shares shorten office_tables ranking cards card words documents sentences"
+names="sequences compare command wakes reasons shares shorten office_tables ranking cards card order_lists orders words documents sentences"
 tests() { # [NAME of the one that fails]
     local one
     for one in $names; do echo 'echo "given: $*"' >"$repository/tests/$one.sh"; done
@@ -612,6 +735,7 @@ run "check, then key --shares" 0 key --shares samples/k1; says_nothing
 run "check, then key --shorten" 0 key --shorten 8 "a question"; says_nothing
 run "check, then key --interval" 0 key --interval 1000 "a table"; says_nothing
 run "check, then key --card" 0 key --card "a card" samples/k1; says_nothing
+run "check, then key --orders" 0 key --orders "some orders" samples/k1; says_nothing
 run "check, its tests and what they are given" 0 check 5 6
 {
     echo "rt: ok"
@@ -640,7 +764,7 @@ run "check without a tally" 1 check; ends_not_in '0 failed$'
 ci 0 "0 passed, 0 failed"
 run "check with nothing passed" 1 check; ends_not_in '0 failed$'
 ci 0 "7 passed, 0 failed"
-for name in key list_to_file plain_key reason file_to_list shares shorten ranking card; do
+for name in key list_to_file plain_key reason file_to_list shares shorten ranking card orders; do
     originals
     rm "$work/built/$name" "$repository/target/bin/$name"
     run "check with $name missing" 1 check; ends_in "left no target/bin/$name\$"

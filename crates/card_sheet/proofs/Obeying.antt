@@ -11,13 +11,13 @@ use Rattle.dispatcher.specs.declared.Machine.{Machine}
 use Rattle.dispatcher.specs.declared.Answered.{Answered}
 use Rattle.dispatcher.specs.Shown.{shown}
 use Rattle.dispatcher.proofs.Stored.{sound-shown}
+use Rattle.replay.specs.declared.Ran.{Ran}
+use Rattle.replay.specs.Running.{Ready, RanOn}
 use Rattle.bridge_card.specs.declared.Reading.{Reading}
 use Rattle.bridge_card.specs.Card.{read, Changed, write, raise, Polled, pollIf, poll}
 use Rattle.bridge_card.specs.Promises.{pollOf, Polls}
 use Rattle.bridge_card.proofs.Following.{polled-sound}
 use Rattle.card_sheet.specs.declared.Command.{Command}
-use Rattle.replay.specs.declared.Ran.{Ran}
-use Rattle.replay.specs.Running.{Ready, RanOn}
 use Rattle.card_sheet.specs.Sheet.{Stand, Done, afterRead, afterChange, afterPoll, afterEvents, done}
 use Rattle.card_sheet.specs.Promises.{standOf, Obeys}
 
