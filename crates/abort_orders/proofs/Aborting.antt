@@ -17,6 +17,7 @@ use Rattle.rules.specs.Refusals.{refusal, linked}
 use Rattle.rules.specs.Events.{Answered, refused, dispatch, offerIf, offer}
 use Rattle.rules.specs.Lists.{Ranged, AllRanged, run, after, numbersOf}
 use Rattle.rules.proofs.Basics.Views.{Two, yes-true, no-false, two}
+use Rattle.rules.proofs.Files.Records.{other-kind}
 use Rattle.rules.proofs.Soundness.Places.{sound-of, of-sound}
 use Rattle.rules.proofs.Agreement.{agrees-dispatch, answered-number, offer-sound}
 use Rattle.rules.proofs.Demands.{accepted-sound, after-sound}
@@ -26,11 +27,7 @@ use Rattle.abort_orders.specs.Meaning.{Each, abortEvents, counted, Abort
 use Rattle.abort_orders.specs.Meaning.{plainTaken}
 
 pub abort-ranged : (n : ℕ) → Ranged (Abort n)
-abort-ranged n =
-    record {
-      give = λ t m priority quantum e. let z : _≡_ {A = ℕ} 0 1 = cc in absurd (omega arith);
-      rank = λ t priority e. let z : _≡_ {A = ℕ} 0 1 = cc in absurd (omega arith);
-    }
+abort-ranged n = other-kind (Abort n) (λ z. omega arith) (λ z. omega arith)
 
 pub aborts-ranged : (l : List HeldAbort) → AllRanged (abortEvents l)
 aborts-ranged [] = tt

@@ -10,6 +10,7 @@ use Rattle.rules.specs.Sound.{sound}
 use Rattle.rules.specs.Refusals.{refusal}
 use Rattle.rules.specs.Events.{Answered, refused, dispatchAfter, dispatch, offerIf, offer}
 use Rattle.rules.specs.Lists.{Ranged}
+use Rattle.rules.proofs.Files.Records.{other-kind}
 use Rattle.rules.proofs.Demands.{accepted-sound}
 
 -- refused, on a machine sound or not
@@ -30,11 +31,7 @@ wakes-sound true e s is = refl
 wakes-sound false e s is = absurd (omega arith)
 
 pub wake-ranged : (n : ℕ) → Ranged (Wake n)
-wake-ranged n =
-    record {
-      give = λ t m priority quantum e. let z : _≡_ {A = ℕ} 0 1 = cc in absurd (omega arith);
-      rank = λ t priority e. let z : _≡_ {A = ℕ} 0 1 = cc in absurd (omega arith);
-    }
+wake-ranged n = other-kind (Wake n) (λ z. omega arith) (λ z. omega arith)
 
 -- offered as in a list
 pub as-offered : (isSound : Bool) (e : Event) (s : State) → isSound ≡ sound s → offerIf isSound e s ≡ offer e s

@@ -18,6 +18,7 @@ use Rattle.rules.specs.Events.{offer}
 use Rattle.rules.specs.Plain.{plainStrike, update, judge, plainOffer}
 use Rattle.rules.specs.Lists.{Ranged}
 use Rattle.rules.proofs.Basics.Accepting.{passes}
+use Rattle.rules.proofs.Files.Records.{other-kind}
 use Rattle.rules.proofs.Order.Orders.{member-without}
 use Rattle.rules.proofs.Order.Owners.{own-listed}
 use Rattle.rules.proofs.Soundness.Places.{Sound, sound-of}
@@ -28,11 +29,7 @@ use Rattle.rules.proofs.Agreement.{agrees}
 
 -- a removal has no priority or quantum
 unranged : (n : ℕ) → Ranged (Remove n)
-unranged n =
-    record {
-      give = λ t m priority quantum e. let z : _≡_ {A = ℕ} 0 1 = cc in absurd (omega arith);
-      rank = λ t priority e. let z : _≡_ {A = ℕ} 0 1 = cc in absurd (omega arith);
-    }
+unranged n = other-kind (Remove n) (λ z. omega arith) (λ z. omega arith)
 
 module _ (s : State) (h : sound s ≡ true) (n : ℕ) (accepted : refusal (Remove n) (forget s) ≡ 0) where
   x : Sound s

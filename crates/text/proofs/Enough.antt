@@ -17,16 +17,20 @@ use Rattle.rules.proofs.Files.ReadThenWritten.{bytes-take}
 use Rattle.rules.proofs.Files.Refusing.{refuses-long}
 
 module _ {A : Type 0} (f : List ℕ → A) (most : ℕ) where
-  -- a function that a list cut off after more than `most` elements answers as the whole needs no more than one element more
-  pub enough : ((b : List ℕ) (n : ℕ) → most < n → n ≤ length b → f (take n b) ≡ f b) → (n : ℕ) → most < n → (b : List ℕ)
-      → f (take n b) ≡ f b
-  enough long n more b = by (two (ltb (length b) n))
+  -- a list that is not cut off is whole
+  enough-of : (b : List ℕ) → ((n : ℕ) → most < n → n ≤ length b → f (take n b) ≡ f b) → (n : ℕ) → most < n → f (take n b) ≡ f b
+  enough-of b long n more = by (two (ltb (length b) n))
     where
       by : Two (ltb (length b) n) → f (take n b) ≡ f b
       by (yes-true h) =
           let short : length b < n = ltb-true (length b) n h in
           ap f (take-all n b (omega arith))
-      by (no-false h) = long b n more (ltb-false (length b) n h)
+      by (no-false h) = long n more (ltb-false (length b) n h)
+
+  -- a function that a list cut off after more than `most` elements answers as the whole needs no more than one element more
+  pub enough : ((b : List ℕ) (n : ℕ) → most < n → n ≤ length b → f (take n b) ≡ f b) → (n : ℕ) → most < n → (b : List ℕ)
+      → f (take n b) ≡ f b
+  enough long n more b = enough-of b (long b) n more
 
   -- nor does one that gives one answer to all lists with more than `most` elements
   pub enough-for-one : (a : A) → ((b : List ℕ) → most < length b → f b ≡ a) → (n : ℕ) → most < n → (b : List ℕ) → f (take n b) ≡ f b
@@ -36,15 +40,10 @@ module _ {A : Type 0} (f : List ℕ → A) (most : ℕ) where
   -- the same of lists of bytes
   pub enough-of-bytes : (a : A) → ((b : List ℕ) → Bytes b → most < length b → f b ≡ a) → (n : ℕ) → most < n → (b : List ℕ) → Bytes b
       → f (take n b) ≡ f b
-  enough-of-bytes a long n more b narrow = by (two (ltb (length b) n))
-    where
-      by : Two (ltb (length b) n) → f (take n b) ≡ f b
-      by (yes-true h) =
-          let short : length b < n = ltb-true (length b) n h in
-          ap f (take-all n b (omega arith))
-      by (no-false h) =
-          let fits : n ≤ length b = ltb-false (length b) n h in
-          long (take n b) (bytes-take n b narrow) (omega (arith, length-take-le n b fits)) ∙ sym (long b narrow (omega arith))
+  enough-of-bytes a long n more b narrow =
+      enough-of b
+      (λ n more fits. long (take n b) (bytes-take n b narrow) (omega (arith, length-take-le n b fits)) ∙ sym (long b narrow (omega arith)))
+      n more
 
 -- a file of more than 65,536 bytes is refused, and its key is that refusal's line
 long-key : (file : List ℕ) → 65536 < length file → key file ≡ fileLine 14

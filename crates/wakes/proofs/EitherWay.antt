@@ -28,6 +28,7 @@ use Rattle.rules.specs.Refusals.{refusal}
 use Rattle.rules.specs.Events.{Answered, aboveRunning, releases, wake, offer}
 use Rattle.rules.specs.Lists.{Ranged, run, after, numbersOf}
 use Rattle.rules.proofs.Basics.Views.{Two, yes-true, no-false, two}
+use Rattle.rules.proofs.Files.Records.{other-kind}
 use Rattle.rules.proofs.Soundness.Standings.{runs-walk}
 use Rattle.rules.proofs.Soundness.Places.{owner-live, Settled, nothing, runs-on, Sound, sound-of}
 use Rattle.wakes.proofs.TwoReleases.{Listing, Apart, release-threads, release-running, releases-commute}
@@ -125,11 +126,7 @@ wakes-commute a b s n l =
 
 -- a wake's operand is not bounded
 pub wake-ranged : (n : ℕ) → Ranged (Wake n)
-wake-ranged n =
-    record {
-      give = λ t m priority quantum e. let z : _≡_ {A = ℕ} 0 1 = cc in absurd (omega arith);
-      rank = λ t priority e. let z : _≡_ {A = ℕ} 0 1 = cc in absurd (omega arith);
-    }
+wake-ranged n = other-kind (Wake n) (λ z. omega arith) (λ z. omega arith)
 
 pub wake-sound : (s : State) → sound s ≡ true → (n : ℕ) → sound (offer (Wake n) s .state) ≡ true
 wake-sound s h n = accepted-sound (Wake n) s (wake-ranged n) h

@@ -8,7 +8,7 @@ use lib.ListN.{length, length-append}
 use borrow.Author.Tests.{leb-true}
 use Rattle.rules.specs.declared.Event.{Event}
 use Rattle.rules.specs.declared.Event.the-variants.{Give, Rank}
-use Rattle.rules.specs.EventFile.{highByte, recordOf, recordsOf, byte, fits, allFit}
+use Rattle.rules.specs.EventFile.{kindOf, highByte, recordOf, recordsOf, byte, fits, allFit}
 use Rattle.rules.specs.Lists.{Ranged, AllRanged}
 use Rattle.rules.proofs.Basics.Views.{and-true-left, and-true-right}
 use Rattle.rules.proofs.Basics.Members.{all-head, all-tail}
@@ -43,6 +43,14 @@ ranged e f =
     record {
       give = λ t n priority quantum is. give-fits t n priority quantum (sym (ap fits is) ∙ f);
       rank = λ t priority is. rank-fits t priority (sym (ap fits is) ∙ f);
+    }
+
+-- and so is an event of another kind than give and rank, whatever it holds
+pub other-kind : (e : Event) → (kindOf e ≡ 2 → ⊥) → (kindOf e ≡ 11 → ⊥) → Ranged e
+other-kind e no-give no-rank =
+    record {
+      give = λ t n priority quantum is. absurd (no-give (ap kindOf is));
+      rank = λ t priority is. absurd (no-rank (ap kindOf is));
     }
 
 pub all-ranged : (es : List Event) → allFit es ≡ true → AllRanged es
