@@ -11,7 +11,7 @@ use Rattle.event_file.specs.Left.{eventsAt, Left}
 use Rattle.event_file.proofs.Steps.{all-left}
 use Rattle.dispatcher.specs.declared.Machine.{Machine}
 use Rattle.dispatcher.specs.Shown.{shown, soundMachine, emptyMachine}
-use Rattle.dispatcher.proofs.Runs.{empty-machine-sound}
+use Rattle.dispatcher.proofs.Runs.{shows-empty, empty-machine-sound}
 use Rattle.replay.specs.Running.{Ready}
 use Rattle.replay.proofs.Inputs.{file-accepted}
 use Rattle.text.specs.Line.{lineBytes}
@@ -65,8 +65,9 @@ pub command-none : (input out : List ℕ) {file block : List ℕ} {m : Machine} 
 unfolding eventsOf
 command-none input out {file} {block} {m} {place} {left} narrow accepted is-file is-block is-empty at count =
     let early = file-early input narrow in
+    let shows = shows-empty m is-empty in
     let stand : standOf block file 5 m ≡ atFirst input =
-    λ i. record { block = is-block i; state = shown (is-empty i); events = eventsAt 5 (is-file i) } in
+    λ i. record { block = is-block i; state = shows i; events = eventsAt 5 (is-file i) } in
     let whole : commandLines 1 (commandsFrom input (place + 1) left) (standOf block file 5 m)
     ≡ commandLines 1 (commandsIn input) (atFirst input) =
     λ i. commandLines 1 (commandsFrom input (at i + 1) (count i)) (stand i) in

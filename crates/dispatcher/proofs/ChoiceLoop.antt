@@ -1,13 +1,13 @@
 -- The choice as a loop: what is left to choose from here is the whole choice.
 use Prim.Native.Nat.{ℕ, suc, _+_, _*_, _-_, _≤_, _<_}
-use mathlib.Core.Path.{_≡_, refl, sym, _∙_, ap, ap₂}
+use mathlib.Core.Path.{_≡_, refl, sym, _∙_, ap, ap₂, subst}
 use mathlib.Core.Logic.{⊎-elim}
 use mathlib.Core.List.{List, [], _∷_, map}
-use mathlib.Core.Bool.{true, false, cond}
+use mathlib.Core.Bool.{Bool, true, false, cond}
 use mathlib.Core.Option.{none, some}
 use native.Mathlib.Omega.{arith}
 use lib.ListN.{length, getD, set, take, length-map}
-use lib.Seq.{length-take-le, map-set-same, set-out}
+use lib.Seq.{map-set-same, set-out}
 use types.Run.{OneOf}
 use denote.Enum.Declared.{tagOf}
 use Rattle.rules.specs.declared.Hold.{Hold}
@@ -21,30 +21,32 @@ use Rattle.rules.specs.declared.Running.the-variants.{Nothing, Runs}
 use Rattle.rules.specs.State.{State, ownerAt, holdAt, liveThreads, withPlaces, withRunning}
 use Rattle.rules.specs.Walk.{walk, chainOf, atEnd, verdict, Verdict, runs, stalls}
 use Rattle.rules.specs.Threads.{donate}
-use Rattle.rules.specs.Release.{inQueue, behind, topmostAt, release}
+use Rattle.rules.specs.Release.{inQueue, behind, topmostAt, releasedPlaces, release}
 use Rattle.rules.specs.Choice.{Outcome, park, retry, decide, look, chooseFrom, choose}
 use Rattle.dispatcher.specs.declared.Machine.{Machine}
+use Rattle.neighbours.specs.Sides.{Sides}
+use Rattle.neighbours.specs.Reading.{turnsRead}
 use Rattle.tables.specs.Timeslices.{withPlace, sliceOf, placeOf, freeTimeslice}
-use Rattle.dispatcher.specs.Shown.{shown, stored}
+use Rattle.dispatcher.specs.Shown.{sidesOf, shown, stored}
 use Rattle.tables.specs.declared.order.Sought.{Sought}
 use Rattle.tables.specs.declared.order.Sought.the-variants.{At, Nothing as None}
 use Rattle.tables.specs.declared.ends.Verdict.{Verdict as Said}
 use Rattle.tables.specs.declared.ends.Verdict.the-variants.{Runs as RunsNow, Retries, Waits, Stalls}
 use Rattle.tables.specs.Sets.{setOf, soughtOf}
-use Rattle.tables.specs.Releasing.{placesAfter, Replaced}
+use Rattle.timeslices.specs.Releasing.{placesAfter, Replaced}
 use Rattle.tables.specs.Turning.{entriesOf}
-use Rattle.tables.specs.Codes.{codeOf, topOf, highest, parkedCode, Recoded, Coded}
+use Rattle.timeslices.specs.Codes.{codeOf, topOf, highest, parkedCode, Recoded, Coded}
 use Rattle.tables.specs.Verdicts.{verdictOf}
 use Rattle.dispatcher.specs.Choosing.{asideOf, freedBy, Choosable, before, Chosen}
 use Rattle.tables.proofs.ends.Verdict.{the-type}
 use Rattle.tables.proofs.Lookups.{map-set}
 use Rattle.rules.proofs.Bounds.{live-most}
 use Rattle.rules.proofs.Links.Chains.{walk-links}
-use Rattle.tables.proofs.ReleaseLoop.{release-is}
-use Rattle.tables.proofs.Searches.{top-is}
-use Rattle.tables.proofs.Recodings.{Freed, park-coded}
+use Rattle.timeslices.proofs.ReleaseLoop.{release-is}
+use Rattle.timeslices.proofs.Searches.{top-is}
+use Rattle.timeslices.proofs.Recodings.{Freed, park-coded}
 use Rattle.rules.proofs.Tables.Writes.{donate-relabels}
-use Rattle.dispatcher.proofs.Stored.{turns-full, live-is, turns-fit, stored-with}
+use Rattle.dispatcher.proofs.Stored.{live-is, turns-fit, turns-many, stored-with}
 
 -- what a look finds: the topmost timeslice in Queue, its chain and what its end says
 pub record Look (s : State) (t : ℕ) (c : Chain) (v : Verdict) : Type 0 where
@@ -77,7 +79,7 @@ module _ (n links : ℕ) (s : State) where
       ∙ ap (λ (d : Chain). decide (λ u. chooseFrom n u) links s t d (verdict (s .threads) d)) (l .chain)
       ∙ sym (ap (look (λ u. chooseFrom n u) links s) (l .top))
 
--- the state that a machine shows, with this turn order
+-- the state that a machine shows, with the turn order laid out so
 abbrev pub stateOf : Machine → ℕ → List ℕ → State
 stateOf m live order =
     record {
@@ -98,7 +100,8 @@ tablesTo ths ts m =
     record {
       threads = ths;
       timeslices = ts;
-      order = m .order;
+      before = m .before;
+      after = m .after;
       «live_threads» = m .«live_threads»;
       «live_timeslices» = m .«live_timeslices»;
       running = m .running;
@@ -223,7 +226,7 @@ module _ (m : Machine) (live : ℕ) (order codes heights : List ℕ) (r : Coded 
 pub record Choosing (first : Machine) (start live lives : ℕ) (order : List ℕ) (m : Machine) (links looks : ℕ) (codes heights : List ℕ) :
     Type 0 where
   pub exact : stored m ≡ true
-  pub turns : m .order ≡ order
+  pub turns : take live order ≡ turnsRead (m .after) live
   pub turned : m .«live_timeslices» ≡ live
   pub counted : m .«live_threads» ≡ lives
   pub fits : live ≤ 128
@@ -236,17 +239,16 @@ pub record Choosing (first : Machine) (start live lives : ℕ) (order : List ℕ
 
 pub begin : (m : Machine) (links looks : ℕ) (codes heights : List ℕ) → Choosable m links → length (m .threads) ≡ 128
     → length (m .timeslices) ≡ 128 → looks ≡ m .«live_timeslices» + 2
-    → Coded (m .timeslices) (m .order) (m .«live_timeslices») codes heights
-    → Choosing m links (m .«live_timeslices») (m .«live_threads») (m .order) m links looks codes heights
+    → (order : List ℕ) → length order ≡ 128 → take (m .«live_timeslices») order ≡ shown m .order
+    → Coded (m .timeslices) order (m .«live_timeslices») codes heights
+    → Choosing m links (m .«live_timeslices») (m .«live_threads») order m links looks codes heights
 unfolding choose
-begin m links looks codes heights c ths ts e r =
-    let full = turns-full m (c .exact) in
+begin m links looks codes heights c ths ts e order full laid r =
     let fits = turns-fit m (c .exact) in
-    let two : looks ≡ suc (suc (length (take (m .«live_timeslices») (m .order)))) =
-    rw (length-take-le (m .«live_timeslices») (m .order) (omega arith)) (omega arith) in
+    let two : looks ≡ suc (suc (length (shown m .order))) = omega (arith, turns-many m (c .exact)) in
     record {
       exact = c .exact;
-      turns = refl;
+      turns = laid;
       turned = refl;
       counted = refl;
       fits = fits;
@@ -255,7 +257,7 @@ begin m links looks codes heights c ths ts e r =
       timeslices = ts;
       coded = r;
       few = omega (arith, c .few);
-      rest = ap (λ (k : ℕ). chooseFrom k (before m links)) two;
+      rest = rw laid (ap (λ (k : ℕ). chooseFrom k (before m links)) two);
     }
 
 module _ (first : Machine) (start live lives : ℕ) (order : List ℕ) (m : Machine) (links looks : ℕ) (codes heights : List ℕ)
@@ -273,19 +275,21 @@ module _ (first : Machine) (start live lives : ℕ) (order : List ℕ) (m : Mach
       → shown (record {
         threads = m .threads;
         timeslices = m .timeslices;
-        order = m .order;
+        before = m .before;
+        after = m .after;
         «live_threads» = m .«live_threads»;
         «live_timeslices» = m .«live_timeslices»;
         running = r;
       })
       ≡ withRunning r (stateOf m live order)
-  shows r = rw (w .turns, w .turned) refl
+  shows r = rw (w .turned, w .turns) refl
 
   running-exact : (r : Running)
       → stored (record {
         threads = m .threads;
         timeslices = m .timeslices;
-        order = m .order;
+        before = m .before;
+        after = m .after;
         «live_threads» = m .«live_threads»;
         «live_timeslices» = m .«live_timeslices»;
         running = r;
@@ -300,7 +304,8 @@ module _ (first : Machine) (start live lives : ℕ) (order : List ℕ) (m : Mach
         machine = record {
           threads = m .threads;
           timeslices = m .timeslices;
-          order = m .order;
+          before = m .before;
+          after = m .after;
           «live_threads» =
               m .«live_threads»;
           «live_timeslices» = m .«live_timeslices»;
@@ -327,7 +332,7 @@ module _ (first : Machine) (start live lives : ℕ) (order : List ℕ) (m : Mach
 
   -- the next look, from a machine with the same turn order and live threads
   pub again : (n : Machine) (after : List ℕ) (k t : ℕ) (c : Chain) (v : Verdict) (s : State)
-      → n .order ≡ m .order → n .«live_timeslices» ≡ m .«live_timeslices» → n .«live_threads» ≡ m .«live_threads»
+      → sidesOf n ≡ sidesOf m → n .«live_timeslices» ≡ m .«live_timeslices» → n .«live_threads» ≡ m .«live_threads»
       → liveThreads (n .threads) ≡ liveThreads (m .threads) → length (n .threads) ≡ length (m .threads) → length (n .timeslices) ≡ length
       (m .timeslices)
       → Coded (n .timeslices) order live after heights → 0 < looks → k ≡ links + c .links → Look (stateOf m live order) t c v → stateOf n
@@ -342,7 +347,7 @@ module _ (first : Machine) (start live lives : ℕ) (order : List ℕ) (m : Mach
       rw one at (w .rest) in
       record {
         exact = stored-with m (w .exact) n o tn (ln ∙ live-is m (w .exact) ∙ sym lv);
-        turns = o ∙ w .turns;
+        turns = w .turns ∙ ap (λ (s : Sides). turnsRead (s .after) live) (sym o);
         turned = tn ∙ w .turned;
         counted = ln ∙ w .counted;
         fits = w .fits;
@@ -360,7 +365,8 @@ module _ (first : Machine) (start live lives : ℕ) (order : List ℕ) (m : Mach
         machine = record {
           threads = m .threads;
           timeslices = m .timeslices;
-          order = m .order;
+          before = m .before;
+          after = m .after;
           «live_threads» =
               m .«live_threads»;
           «live_timeslices» = m .«live_timeslices»;
@@ -379,7 +385,8 @@ module _ (first : Machine) (start live lives : ℕ) (order : List ℕ) (m : Mach
         machine = record {
           threads = m .threads;
           timeslices = m .timeslices;
-          order = m .order;
+          before = m .before;
+          after = m .after;
           «live_threads» =
               m .«live_threads»;
           «live_timeslices» = m .«live_timeslices»;
@@ -391,6 +398,16 @@ module _ (first : Machine) (start live lives : ℕ) (order : List ℕ) (m : Mach
   runs-none f left e is =
       let one : looks ≡ suc (looks - 1) = omega arith in
       ends Nothing links (rw one (looks-empty (looks - 1) links (stateOf m live order) (sym e ∙ ap soughtOf is)))
+
+  -- what is released along the neighbours is released in the turn order that was laid out: they have not changed
+  pub as-laid : (t : ℕ) (c : Chain) (v : Said) (n : Machine) (coded : List ℕ) → Unreleased m live order t c v n coded heights
+      → (at : Place → Bool) (q : ℕ) (us : List Timeslice)
+      → Replaced (n .timeslices) (releasedPlaces at q (turnsRead (n .after) live) (map placeOf (n .timeslices))) us
+      → Replaced (n .timeslices) (releasedPlaces at q (take live order) (map placeOf (n .timeslices))) us
+  as-laid t c v n coded u at q us r =
+      let same : turnsRead (n .after) live ≡ take live order =
+      ap (λ (o : Machine). turnsRead (o .after) live) (u .others) ∙ sym (w .turns) in
+      subst (λ (l : List ℕ). Replaced (n .timeslices) (releasedPlaces at q l (map placeOf (n .timeslices))) us) same r
 
   -- it does not run yet: a set is released, and the choice goes on
   pub goes-on : (t k : ℕ) (c : Chain) (v : Said) (n : Machine) (coded after : List ℕ) (us : List Timeslice) → 0 < looks
@@ -404,7 +421,7 @@ module _ (first : Machine) (start live lives : ℕ) (order : List ℕ) (m : Mach
       let shows : stateOf (tablesTo (n .threads) us n) live order ≡ release at s =
       replaced-shown n live order (placesAfter at (s .slices) (s .order) (s .places)) us (f .replaced) ∙ sym (release-is at s) in
       again (tablesTo (n .threads) us n) after k t c (verdictOf v) (release at s)
-      (ap (λ (o : Machine). o .order) (u .others)) (ap (λ (o : Machine). o .«live_timeslices») (u .others))
+      (ap sidesOf (u .others)) (ap (λ (o : Machine). o .«live_timeslices») (u .others))
       (ap (λ (o : Machine). o .«live_threads») (u .others))
       (u .lives) (u .size) (as-many (n .timeslices) us _ (f .replaced) ∙ u .many) (f .coded) left e l shows
       (u .next (λ o. chooseFrom (looks - 1) o) links)

@@ -2,7 +2,7 @@
 -- of one event, `Runs` of a list.
 use Prim.Native.Nat.{ℕ, zero, suc, _≤_}
 use native.Mathlib.Omega.{arith}
-use mathlib.Core.Path.{_≡_, refl, sym, ap, _∙_}
+use mathlib.Core.Path.{_≡_, refl, sym, ap, subst, _∙_}
 use mathlib.Core.List.{List, [], _∷_}
 use mathlib.Core.Bool.{Bool, true, false, cond}
 use Rattle.rules.specs.declared.Event.{Event}
@@ -22,7 +22,7 @@ use Rattle.dispatcher.specs.Shown.{shown, stored, soundMachine, emptyMac
 use Rattle.dispatcher.specs.Promise.{Answers}
 use Rattle.dispatcher.proofs.Stored.{sound-stored, sound-shown}
 use Rattle.dispatcher.proofs.OneForm.{one-form}
-use Rattle.dispatcher.proofs.Runs.{answerTo, as-offered, Runs, stops, steps, answered-sound, empty-machine-sound}
+use Rattle.dispatcher.proofs.Runs.{answerTo, as-offered, Runs, stops, steps, answered-sound, empty-shown, empty-machine-sound}
 
 -- the first fitting number: 1 of an unsound machine, then those of document 01's list
 abbrev pub firstRefusal : Event → Machine → ℕ
@@ -131,5 +131,8 @@ same-from (steps {m = m} {e = e} {es = es} {r = r} {rs = rs} a rest) f h =
       rw (← state, ← plain) later,
     )
 
+same-from-empty : {es : List Event} {rs : List Answered} → Runs emptyMachine es rs → AllRanged es → AllSame es rs empty emptyPlain
+same-from-empty {es} {rs} x f = subst (λ (s : State). AllSame es rs s (forget s)) empty-shown (same-from x f empty-machine-sound)
+
 pub demand-3 : Equal
-demand-3 = record { from-sound = same-from; from-empty = λ x f. same-from x f empty-machine-sound }
+demand-3 = record { from-sound = same-from; from-empty = same-from-empty }

@@ -11,3 +11,4 @@ pub mod Offering
 pub mod OneForm
 pub mod Runs
 pub mod Demands
+pub mod TurnOrders

@@ -6,7 +6,7 @@ use mathlib.Core.Path.{_≡_, refl, sym, ap, _∙_, subst}
 use mathlib.Core.List.{List, [], _∷_, map}
 use mathlib.Core.Bool.{Bool, true, false}
 use Rattle.rules.specs.declared.Event.{Event}
-use Rattle.rules.specs.State.{State}
+use Rattle.rules.specs.State.{State, empty}
 use Rattle.rules.specs.Sound.{sound}
 use Rattle.rules.specs.Events as events
 use Rattle.rules.specs.Lists.{Ranged, AllRanged, run, after, numbersOf}
@@ -14,6 +14,9 @@ use Rattle.rules.proofs.Basics.Views.{Two, yes-true, no-false, two, and-true-le
 use Rattle.rules.proofs.Computing.{computing}
 use Rattle.rules.proofs.Agreement.{offer-sound}
 use Rattle.rules.proofs.Demands.{accepted-sound}
+use Rattle.neighbours.specs.Sides.{neighbour}
+use Rattle.neighbours.specs.Reading.{turnsFrom}
+use Rattle.neighbours.specs.Forming.{leadsBack}
 use Rattle.dispatcher.specs.declared.Machine.{Machine}
 use Rattle.dispatcher.specs.declared.Answered.{Answered}
 use Rattle.dispatcher.specs.Shown.{shown, stored, soundMachine, emptyMachine}
@@ -50,9 +53,16 @@ pub dispatched-sound : (e : Event) (m : Machine) (r : Answered) → Ranged e →
 dispatched-sound e m r f h a =
     answered-sound e m r f h (subst (λ (z : events.Answered). Answers z m r) (sym (ap (λ (b : Bool). events.offerIf b e (shown m)) h)) a)
 
--- from `Machine::empty()`
+-- from `Machine::empty()`, which shows document 01's empty machine
+pub empty-shown : shown emptyMachine ≡ empty
+unfolding turnsFrom
+empty-shown = refl
+
+pub shows-empty : (m : Machine) → m ≡ emptyMachine → shown m ≡ empty
+shows-empty m e = ap shown e ∙ empty-shown
+
 pub empty-machine-sound : soundMachine emptyMachine ≡ true
-unfolding soundMachine stored computing
+unfolding soundMachine stored computing neighbour turnsFrom leadsBack
 empty-machine-sound = refl
 
 -- the machine that the last event hands back

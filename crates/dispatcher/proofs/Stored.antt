@@ -1,19 +1,29 @@
--- What `stored` says of a machine: an entry of the turn order for each number, true counts, and 0 in the free entries.
+-- What `stored` says of a machine: a true L, and neighbours that form a list of T timeslices.
 use Prim.Native.Nat.{ℕ, _≤_, _<_}
-use mathlib.Core.Path.{_≡_, _∙_, ap}
+use mathlib.Core.Path.{_≡_, refl, sym, _∙_, ap, ap₂, subst}
+use mathlib.Core.List.{List}
 use mathlib.Core.Bool.{Bool, true}
-use lib.ListN.{length, getD}
-use lib.Dec.{leb, ltb, eqb}
-use borrow.Author.Tests.{eqb-true, leb-true, eq-eqb, le-ltb, le-leb, ltb-false}
-use Rattle.rules.specs.Tests.{below}
+use lib.ListN.{length, take}
+use lib.Dec.{eqb}
+use borrow.Author.Tests.{eqb-true, eq-eqb}
+use Rattle.rules.specs.Tests.{member}
 use Rattle.rules.specs.State.{limit, liveThreads}
 use Rattle.rules.specs.Sound.{sound}
-use Rattle.rules.proofs.Basics.Views.{Two, yes-true, no-false, two, and-true-left, and-true-right, and-true-both, or-true-left}
-use Rattle.rules.proofs.Basics.Views.{or-true-right, and4}
-use Rattle.rules.proofs.Basics.Members.{below-at, below-of}
-use Rattle.soundness.specs.Parts.{entryFree}
+use Rattle.rules.proofs.Basics.Views.{and-true-left, and-true-right, and-true-both}
+use Rattle.neighbours.specs.Sides.{Sides}
+use Rattle.neighbours.specs.Reading.{turnsRead, isListed}
+use Rattle.neighbours.specs.Forming.{formsList, Linked}
+use Rattle.neighbours.proofs.Stepping.{take-laid, length-laid}
+use Rattle.neighbours.proofs.TurnOrder.{forms-few, forms-linked, forms-length, linked-read, linked-forms, has-neighbour}
 use Rattle.dispatcher.specs.declared.Machine.{Machine}
-use Rattle.dispatcher.specs.Shown.{shown, stored, soundMachine}
+use Rattle.dispatcher.specs.Shown.{sidesOf, turnsOf, shown, stored, soundMachine}
+
+-- the turn order that readers take, in an array, is the one shown, whatever the neighbours are
+pub turns-shown : (m : Machine) → take (m .«live_timeslices») (turnsOf m) ≡ shown m .order
+turns-shown m = take-laid (m .after) (m .«live_timeslices»)
+
+pub turns-long : (m : Machine) → length (turnsOf m) ≡ 128
+turns-long m = length-laid (m .after) (m .«live_timeslices»)
 
 -- a sound machine is stored, and shows a sound state
 pub sound-stored : (m : Machine) → soundMachine m ≡ true → stored m ≡ true
@@ -25,53 +35,52 @@ unfolding soundMachine
 sound-shown m e = and-true-right (stored m) (sound (shown m)) e
 
 module _ (m : Machine) (e : stored m ≡ true) where
-  abbrev sized : Bool
-  sized = eqb (length (m .order)) limit
-
   abbrev counted : Bool
   counted = eqb (m .«live_threads») (liveThreads (m .threads))
 
-  abbrev listed : Bool
-  listed = leb (m .«live_timeslices») limit
-
-  abbrev cleared : Bool
-  cleared = below limit (λ i. entryFree (m .order) (m .«live_timeslices») i)
-
-  clauses : (sized ≡ true) × (counted ≡ true) × (listed ≡ true) × (cleared ≡ true)
+  forms : formsList (sidesOf m) (m .«live_timeslices») ≡ true
   unfolding stored
-  clauses = and4 sized counted listed cleared e
-
-  pub turns-full : length (m .order) ≡ limit
-  turns-full = eqb-true (length (m .order)) limit (clauses .0)
+  forms = and-true-right counted (formsList (sidesOf m) (m .«live_timeslices»)) e
 
   pub live-is : m .«live_threads» ≡ liveThreads (m .threads)
-  live-is = eqb-true (m .«live_threads») (liveThreads (m .threads)) (clauses .1)
+  unfolding stored
+  live-is = eqb-true (m .«live_threads») (liveThreads (m .threads))
+      (and-true-left counted (formsList (sidesOf m) (m .«live_timeslices»)) e)
 
   pub turns-fit : m .«live_timeslices» ≤ 128
-  turns-fit = leb-true (m .«live_timeslices») limit (clauses .2)
+  turns-fit = forms-few (sidesOf m) (m .«live_timeslices») forms
 
-  pub free-zero : (k : ℕ) → m .«live_timeslices» ≤ k → k < 128 → getD (m .order) k 0 ≡ 0
-  free-zero k h short =
-      let free = below-at (λ i. entryFree (m .order) (m .«live_timeslices») i) limit (clauses .3) k short in
-      eqb-true (getD (m .order) k 0) 0 (rw (le-ltb k (m .«live_timeslices») h) at free)
+  -- T is the number of live timeslices
+  pub turns-many : length (shown m .order) ≡ m .«live_timeslices»
+  turns-many = forms-length (sidesOf m) (m .«live_timeslices») forms
 
--- and that is all there is to it
-pub stored-of : (n : Machine) → length (n .order) ≡ limit → n .«live_threads» ≡ liveThreads (n .threads) → n .«live_timeslices» ≤ 128
-    → ((k : ℕ) → n .«live_timeslices» ≤ k → k < 128 → getD (n .order) k 0 ≡ 0) → stored n ≡ true
-unfolding stored
-stored-of n o l t f =
-    and-true-both _ _ (and-true-both _ _ (and-true-both _ _ (eq-eqb (length (n .order)) limit o)
-    (eq-eqb (n .«live_threads») (liveThreads (n .threads)) l)) (le-leb (n .«live_timeslices») 128 t))
-    (below-of (λ i. entryFree (n .order) (n .«live_timeslices») i) limit (λ k short. clear k short (two (ltb k (n .«live_timeslices»)))))
-  where
-    clear : (k : ℕ) → k < 128 → Two (ltb k (n .«live_timeslices»)) → entryFree (n .order) (n .«live_timeslices») k ≡ true
-    clear k short (yes-true e) = or-true-left (ltb k (n .«live_timeslices»)) (eqb (getD (n .order) k 0) 0) e
-    clear k short (no-false e) =
-        or-true-right (ltb k (n .«live_timeslices»)) (eqb (getD (n .order) k 0) 0)
-        (eq-eqb (getD (n .order) k 0) 0 (f k (ltb-false k (n .«live_timeslices») e) short))
+  pub turns-linked : Linked (sidesOf m) (shown m .order)
+  turns-linked = forms-linked (sidesOf m) (m .«live_timeslices») forms
+
+-- a timeslice is listed exactly if it has a neighbour
+pub says-listed : (m : Machine) → stored m ≡ true → (t : ℕ) (b v : Bool) → t < 128 → b ≡ isListed (m .after) t → b ≡ v
+    → member t (shown m .order) ≡ v
+says-listed m e t b v small is says = sym (has-neighbour (sidesOf m) (shown m .order) (turns-linked m e) t small) ∙ sym is ∙ says
+
+-- and that is all there is to it: neighbours of this turn order, which is then the one shown
+module _ (n : Machine) (order : List ℕ) (k : Linked (sidesOf n) order) (many : length order ≡ n .«live_timeslices»)
+    (few : n .«live_timeslices» ≤ 128) where
+  short : length order ≤ limit
+  short = subst (λ (j : ℕ). j ≤ limit) (sym many) few
+
+  pub order-shown : turnsRead (n .after) (n .«live_timeslices») ≡ order
+  order-shown = ap (turnsRead (n .after)) (sym many) ∙ linked-read (sidesOf n) order k short
+
+  pub stored-of : n .«live_threads» ≡ liveThreads (n .threads) → stored n ≡ true
+  unfolding stored
+  stored-of l =
+      and-true-both _ _ (eq-eqb (n .«live_threads») (liveThreads (n .threads)) l)
+      (subst (λ (j : ℕ). formsList (sidesOf n) j ≡ true) many (linked-forms (sidesOf n) order k short))
 
 -- other threads, timeslices and another running thread leave it so, where L is still true
-pub stored-with : (m : Machine) → stored m ≡ true → (n : Machine) → n .order ≡ m .order → n .«live_timeslices» ≡ m .«live_timeslices»
+pub stored-with : (m : Machine) → stored m ≡ true → (n : Machine) → sidesOf n ≡ sidesOf m → n .«live_timeslices» ≡ m .«live_timeslices»
     → n .«live_threads» ≡ liveThreads (n .threads) → stored n ≡ true
+unfolding stored
 stored-with m e n o t l =
-    stored-of n (ap length o ∙ turns-full m e) l (rw t (turns-fit m e)) (λ k past fits. rw o (free-zero m e k (rw t at past) fits))
+    and-true-both _ _ (eq-eqb (n .«live_threads») (liveThreads (n .threads)) l)
+    (ap₂ formsList o t ∙ forms m e)

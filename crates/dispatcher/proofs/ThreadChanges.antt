@@ -31,7 +31,8 @@ threadsTo ths m =
     record {
       threads = ths;
       timeslices = m .timeslices;
-      order = m .order;
+      before = m .before;
+      after = m .after;
       «live_threads» = m .«live_threads»;
       «live_timeslices» =
           m .«live_timeslices»;
@@ -58,7 +59,8 @@ module _ (m : Machine) (n : ℕ) (r : Role) (ths : List Thread) (new : ths ≡ c
       record {
         threads = ths;
         timeslices = m .timeslices;
-        order = m .order;
+        before = m .before;
+        after = m .after;
         «live_threads» = m .«live_threads» + 1;
         «live_timeslices» = m .«live_timeslices»;
         running = m .running;
@@ -86,7 +88,8 @@ runningTo ths r m =
     record {
       threads = ths;
       timeslices = m .timeslices;
-      order = m .order;
+      before = m .before;
+      after = m .after;
       «live_threads» = m .«live_threads»;
       «live_timeslices» =
           m .«live_timeslices»;

@@ -1,15 +1,15 @@
 -- Give, charge, refill, abort, remove and rank: the stored machine after their changes shows the state after them, and is stored.
 use Prim.Native.Nat.{ℕ, suc, _+_, _-_, _≤_, _<_}
 use mathlib.Core.Path.{_≡_, refl, sym, _∙_, ap, ap₂, subst}
-use mathlib.Core.List.{List, [], _∷_, _++_, map}
+use mathlib.Core.List.{List, [], map}
 use mathlib.Core.Bool.{Bool, true, false, cond}
 use mathlib.Core.Option.{some}
 use native.Mathlib.Omega.{arith}
 use native.Mathlib.Numerals.{add-one}
-use lib.ListN.{length, getD, set, take, length-set}
+use lib.ListN.{length, getD, set}
 use lib.Dec.{eqb}
 use borrow.Author.Tests.{eq-eqb, ne-eqb}
-use lib.Seq.{map-set-same, take-suc-set, getD-set-other, length-take-le, take-append-seam, getD-take, take-take, getD-append-seam}
+use lib.Seq.{map-set-same}
 use Rattle.rules.specs.declared.Thread.{Thread}
 use Rattle.rules.specs.declared.Place.{Place}
 use Rattle.rules.specs.declared.Place.the-variants.{Queue}
@@ -28,46 +28,50 @@ use Rattle.rules.specs.Events.{withRefilled, detached, withRanked, overtakes, s
 use Rattle.dispatcher.specs.declared.Machine.{Machine}
 use Rattle.dispatcher.specs.declared.Answered.{Answered}
 use Rattle.tables.specs.Timeslices.{sliceOf, placeOf, freeTimeslice, setPriority}
-use Rattle.dispatcher.specs.Shown.{shown, stored}
-use Rattle.tables.specs.Releasing.{placesAfter, detachedPlaces, Replaced}
-use Rattle.tables.specs.Turning.{Turned, StruckOut}
+use Rattle.dispatcher.specs.Shown.{sidesOf, shown, stored}
+use Rattle.timeslices.specs.Releasing.{placesAfter, detachedPlaces, Replaced}
+use Rattle.neighbours.specs.Sides.{Sides, sides}
+use Rattle.neighbours.specs.Reading.{turnsRead}
+use Rattle.neighbours.specs.Forming.{Linked}
 use Rattle.dispatcher.specs.Choosing.{before, Settled, Chosen}
-use Rattle.rules.proofs.Basics.Views.{Same, equal, different, same}
-use Rattle.rules.proofs.Order.Orders.{length-without}
+use Rattle.rules.proofs.Order.Orders.{length-last, length-without, length-back}
 use Rattle.tables.proofs.Lookups.{slice-at, map-set}
-use Rattle.tables.proofs.ReleaseLoop.{release-is}
-use Rattle.tables.proofs.Detaching.{ranked-slices, ranked-places, detached-is}
-use Rattle.dispatcher.proofs.Stored.{turns-full, live-is, turns-fit, free-zero, stored-of}
+use Rattle.timeslices.proofs.ReleaseLoop.{release-is}
+use Rattle.timeslices.proofs.Detaching.{ranked-slices, ranked-places, detached-is}
+use Rattle.dispatcher.proofs.Stored.{live-is, turns-fit, turns-many, order-shown, stored-of}
 
 -- a new timeslice, last in turn order
-module _ (m : Machine) (j i t n p q : ℕ) (at : j ≡ t) (end : i ≡ m .«live_timeslices») (short : m .«live_timeslices» < 128) where
+module _ (m : Machine) (j t n p q : ℕ) (at : j ≡ t) (s : Sides) (short : m .«live_timeslices» < 128) where
   abbrev pub gift : Machine
   gift =
       record {
         threads = m .threads;
         timeslices = set (m .timeslices) j (record { owner = n; priority = p; quantum = q; left = q; place = Queue });
-        order = set (m .order) i t;
+        before = s .before;
+        after = s .after;
         «live_threads» = m .«live_threads»;
         «live_timeslices» = m .«live_timeslices» + 1;
         running = m .running;
       }
 
-  pub gift-shown : stored m ≡ true → shown gift ≡ withGiven t n p q (shown m)
-  unfolding withGiven given last
-  gift-shown ok =
-      let x : Timeslice = record { owner = n; priority = p; quantum = q; left = q; place = Queue } in
-      let slices : map sliceOf (set (m .timeslices) j x) ≡ set (map sliceOf (m .timeslices)) t (sliceOf x) =
-      map-set sliceOf (m .timeslices) j x ∙ ap (λ (k : ℕ). set (map sliceOf (m .timeslices)) k (sliceOf x)) at in
-      let places : map placeOf (set (m .timeslices) j x) ≡ set (map placeOf (m .timeslices)) t Queue =
-      map-set placeOf (m .timeslices) j x ∙ ap (λ (k : ℕ). set (map placeOf (m .timeslices)) k Queue) at in
-      let order : take (m .«live_timeslices» + 1) (set (m .order) i t) ≡ take (m .«live_timeslices») (m .order) ++ (t ∷ []) =
-      rw (end, add-one (m .«live_timeslices»)) (take-suc-set (m .order) (m .«live_timeslices») t (omega (arith, turns-full m ok))) in
-      λ k. record { threads = m .threads; slices = slices k; places = places k; order = order k; running = m .running }
+  -- its neighbours are those of the turn order with the timeslice last
+  module _ (ok : stored m ≡ true) (k : Linked s (last t (shown m .order))) where
+    many : length (last t (shown m .order)) ≡ m .«live_timeslices» + 1
+    many = length-last t (shown m .order) ∙ ap suc (turns-many m ok) ∙ sym (add-one (m .«live_timeslices»))
 
-  pub gift-exact : stored m ≡ true → stored gift ≡ true
-  gift-exact ok =
-      stored-of gift (length-set (m .order) i t ∙ turns-full m ok) (live-is m ok) (omega arith)
-      (λ k past fits. getD-set-other (m .order) i k t 0 (λ e. absurd (omega arith)) ∙ free-zero m ok k (omega arith) fits)
+    pub gift-shown : shown gift ≡ withGiven t n p q (shown m)
+    unfolding withGiven given
+    gift-shown =
+        let x : Timeslice = record { owner = n; priority = p; quantum = q; left = q; place = Queue } in
+        let slices : map sliceOf (set (m .timeslices) j x) ≡ set (map sliceOf (m .timeslices)) t (sliceOf x) =
+        map-set sliceOf (m .timeslices) j x ∙ ap (λ (i : ℕ). set (map sliceOf (m .timeslices)) i (sliceOf x)) at in
+        let places : map placeOf (set (m .timeslices) j x) ≡ set (map placeOf (m .timeslices)) t Queue =
+        map-set placeOf (m .timeslices) j x ∙ ap (λ (i : ℕ). set (map placeOf (m .timeslices)) i Queue) at in
+        let order = order-shown gift (last t (shown m .order)) k many (omega arith) in
+        λ i. record { threads = m .threads; slices = slices i; places = places i; order = order i; running = m .running }
+
+    pub gift-exact : stored gift ≡ true
+    gift-exact = stored-of gift (last t (shown m .order)) k many (omega arith) (live-is m ok)
 
 -- so much is left of a timeslice now, at this place
 module _ (ts : List Timeslice) (k t l : ℕ) (p : Place) (at : k ≡ t) where
@@ -91,13 +95,14 @@ pub place-stays : (ts : List Timeslice) (k t l : ℕ) (at : k ≡ t)
     → map placeOf (set ts k (timed ts k t l (getD ts k freeTimeslice .place) at)) ≡ map placeOf ts
 place-stays ts k t l at = map-set-same placeOf ts k (timed ts k t l (getD ts k freeTimeslice .place) at) freeTimeslice refl
 
--- a machine with other threads, timeslices and turn order
-abbrev pub movedTo : List Thread → List Timeslice → List ℕ → Machine → Machine
-movedTo ths ts order m =
+-- a machine with other threads, timeslices and neighbours
+abbrev pub movedTo : List Thread → List Timeslice → Sides → Machine → Machine
+movedTo ths ts sides m =
     record {
       threads = ths;
       timeslices = ts;
-      order = order;
+      before = sides .before;
+      after = sides .after;
       «live_threads» = m .«live_threads»;
       «live_timeslices» = m .«live_timeslices»;
       running = m .running;
@@ -105,81 +110,64 @@ movedTo ths ts order m =
 
 -- a release, after other threads, timeslices and another turn order
 pub released-shown : (m : Machine) (at : Place → Bool) (ths ths′ : List Thread) (ts free : List Timeslice) (ss : List Slice)
-    (ps : List Place) (turns : List ℕ) (order : List ℕ)
-    → ths ≡ ths′ → map sliceOf ts ≡ ss → map placeOf ts ≡ ps → take (m .«live_timeslices») turns ≡ order
-    → Replaced ts (placesAfter at (map sliceOf ts) (take (m .«live_timeslices») turns) (map placeOf ts)) free
-    → shown (movedTo ths free turns m)
+    (ps : List Place) (sides : Sides) (order : List ℕ)
+    → ths ≡ ths′ → map sliceOf ts ≡ ss → map placeOf ts ≡ ps → turnsRead (sides .after) (m .«live_timeslices») ≡ order
+    → Replaced ts (placesAfter at (map sliceOf ts) (turnsRead (sides .after) (m .«live_timeslices»)) (map placeOf ts)) free
+    → shown (movedTo ths free sides m)
     ≡ release at (withPlaces ps (withTimeslices ss order (withThreads ths′ (shown m))))
-released-shown m at ths ths′ ts free ss ps turns order e s p o r =
+released-shown m at ths ths′ ts free ss ps sides order e s p o r =
     let places : map placeOf free ≡ placesAfter at ss order ps =
-    r .places ∙ ap (λ (x : List Slice). placesAfter at x (take (m .«live_timeslices») turns) (map placeOf ts)) s
+    r .places ∙ ap (λ (x : List Slice). placesAfter at x (turnsRead (sides .after) (m .«live_timeslices»)) (map placeOf ts)) s
     ∙ ap (λ (x : List ℕ). placesAfter at ss x (map placeOf ts)) o ∙ ap (placesAfter at ss order) p in
     let slices : map sliceOf free ≡ ss = r .slices ∙ s in
     (λ k. record { threads = e k; slices = slices k; places = places k; order = o k; running = m .running })
     ∙ sym (release-is at (withPlaces ps (withTimeslices ss order (withThreads ths′ (shown m)))))
 
--- the turn order after a move to its back is stored
-pub turned-exact : (m : Machine) (t : ℕ) (back : List ℕ) (ts : List Timeslice) → stored m ≡ true
-    → Turned t (m .«live_timeslices») (m .order) back
-    → stored (movedTo (m .threads) ts back m) ≡ true
-turned-exact m t back ts ok d =
-    stored-of _ (d .size ∙ turns-full m ok) (live-is m ok) (turns-fit m ok)
-    (λ k past fits. d .free k (omega arith) ∙ free-zero m ok k past fits)
+-- the turn order after a move to its back
+module _ (m : Machine) (t : ℕ) (back : Sides) (ts : List Timeslice) (ok : stored m ≡ true) (listed : member t (shown m .order) ≡ true)
+    (k : Linked back (toBack t (shown m .order))) where
+  as-many : length (toBack t (shown m .order)) ≡ m .«live_timeslices»
+  as-many = length-back t (shown m .order) listed ∙ turns-many m ok
 
--- a timeslice is struck out: its slot is free, and one entry of the turn order less is live
-module _ (m : Machine) (t : ℕ) (ok : stored m ≡ true) (listed : member t (take (m .«live_timeslices») (m .order)) ≡ true) where
+  pub turned-exact : stored (movedTo (m .threads) ts back m) ≡ true
+  turned-exact = stored-of (movedTo (m .threads) ts back m) (toBack t (shown m .order)) k as-many (turns-fit m ok) (live-is m ok)
+
+  pub turned-shown : turnsRead (back .after) (m .«live_timeslices») ≡ toBack t (shown m .order)
+  turned-shown = order-shown (movedTo (m .threads) ts back m) (toBack t (shown m .order)) k as-many (turns-fit m ok)
+
+-- a timeslice is struck out: its slot is free, and one timeslice less is listed
+module _ (m : Machine) (t : ℕ) (ok : stored m ≡ true) (listed : member t (shown m .order) ≡ true) where
   abbrev turns : List ℕ
-  turns = take (m .«live_timeslices») (m .order)
+  turns = shown m .order
 
   one-less : suc (length (without t turns)) ≡ m .«live_timeslices»
-  one-less =
-      length-without t turns listed
-      ∙ length-take-le (m .«live_timeslices») (m .order) (omega (arith, turns-full m ok, turns-fit m ok))
+  one-less = length-without t turns listed ∙ turns-many m ok
 
   pub some-live : 1 ≤ m .«live_timeslices»
   some-live = omega (arith, one-less)
 
-  module _ (rest : List ℕ) (d : StruckOut t (m .«live_timeslices») (m .order) rest) where
-    -- what is left, and then 0
-    entries : take (m .«live_timeslices») rest ≡ without t turns ++ (0 ∷ [])
-    unfolding last
-    entries = rw listed at (d .turns)
-
-    rest-turns : take (m .«live_timeslices» - 1) rest ≡ without t turns
-    rest-turns =
-        let few : m .«live_timeslices» - 1 ≡ length (without t turns) = omega (arith, one-less) in
-        sym (take-take (m .«live_timeslices» - 1) (m .«live_timeslices») rest (omega arith))
-        ∙ ap (take (m .«live_timeslices» - 1)) entries ∙ ap (λ (k : ℕ). take k (without t turns ++ (0 ∷ []))) few
-        ∙ take-append-seam (without t turns) (0 ∷ [])
-
-    last-zero : getD rest (length (without t turns)) 0 ≡ 0
-    last-zero =
-        sym (getD-take (m .«live_timeslices») rest (length (without t turns)) 0 (omega (arith, one-less)))
-        ∙ ap (λ (l : List ℕ). getD l (length (without t turns)) 0) entries
-        ∙ getD-append-seam (without t turns) 0 [] 0
-
-    -- the machine with one entry less
+  module _ (rest : Sides) (l : Linked rest (without t turns)) where
+    -- the machine with one timeslice less
     abbrev pub fewer : List Timeslice → Machine
     fewer ts =
         record {
           threads = m .threads;
           timeslices = ts;
-          order = rest;
+          before = rest .before;
+          after = rest .after;
           «live_threads» = m .«live_threads»;
           «live_timeslices» = m .«live_timeslices» - 1;
           running = m .running;
         }
 
+    few : length (without t turns) ≡ m .«live_timeslices» - 1
+    few = omega (arith, one-less)
+
     pub fewer-exact : (ts : List Timeslice) → stored (fewer ts) ≡ true
-    fewer-exact ts =
-        stored-of (fewer ts) (d .size ∙ turns-full m ok) (live-is m ok) (omega (arith, turns-fit m ok))
-        (λ k past fits. free k past fits (same k _))
-      where
-        free : (k : ℕ) → m .«live_timeslices» - 1 ≤ k → k < 128 → Same k (length (without t turns)) → getD rest k 0 ≡ 0
-        free k past fits (equal e _) = rw e last-zero
-        free k past fits (different o _) =
-            let after : m .«live_timeslices» ≤ k = omega (arith, one-less, o) in
-            d .free k (omega arith) ∙ free-zero m ok k after fits
+    fewer-exact ts = stored-of (fewer ts) (without t turns) l few (omega (arith, turns-fit m ok)) (live-is m ok)
+
+    rest-turns : turnsRead (rest .after) (m .«live_timeslices» - 1) ≡ without t turns
+    rest-turns = order-shown (fewer []) (without t turns) l few (omega (arith, turns-fit m ok))
 
     -- the free slot, and the release of the followers
     module _ (k : ℕ) (at : k ≡ t) (free : List Timeslice) where
@@ -187,7 +175,8 @@ module _ (m : Machine) (t : ℕ) (ok : stored m ≡ true) (listed : member t (ta
       cleared = set (m .timeslices) k freeTimeslice
 
       pub struck-shown :
-          Replaced cleared (placesAfter (behind t) (map sliceOf cleared) (take (m .«live_timeslices» - 1) rest) (map placeOf cleared)) free
+          Replaced cleared (placesAfter (behind t) (map sliceOf cleared) (turnsRead (rest .after) (m .«live_timeslices» - 1)) (map placeOf cleared))
+          free
           → shown (fewer free) ≡ strikeOut (some t) (shown m)
       unfolding park struck
       struck-shown r =
@@ -260,7 +249,7 @@ module _ (m : Machine) (k t : ℕ) (at : k ≡ t) where
   abbrev pub refilledTo : Machine
   refilledTo =
       let x = getD (m .timeslices) k freeTimeslice in
-      movedTo (m .threads) (set (m .timeslices) k (timed (m .timeslices) k t (x .quantum) Queue at)) (m .order) m
+      movedTo (m .threads) (set (m .timeslices) k (timed (m .timeslices) k t (x .quantum) Queue at)) (sidesOf m) m
 
   pub refill-shown : shown refilledTo ≡ withRefilled t (shown m)
   unfolding withRefilled
@@ -271,15 +260,15 @@ module _ (m : Machine) (k t : ℕ) (at : k ≡ t) where
         threads = m .threads;
         slices = slices i;
         places = places i;
-        order = take (m .«live_timeslices») (m .order);
+        order = shown m .order;
         running = m .running;
       }
 
 -- a rank: the timeslice is detached, takes the priority and goes to the back
-pub rank-shown : (m : Machine) (t priority : ℕ) (apart ts : List Timeslice) (back : List ℕ)
+pub rank-shown : (m : Machine) (t priority : ℕ) (apart ts : List Timeslice) (back : Sides)
     → Replaced (m .timeslices)
     (detachedPlaces t (shown m .slices) (shown m .order) (shown m .places) (placeAt (shown m .places) t)) apart
-    → ts ≡ setPriority t priority apart → take (m .«live_timeslices») back ≡ toBack t (shown m .order)
+    → ts ≡ setPriority t priority apart → turnsRead (back .after) (m .«live_timeslices») ≡ toBack t (shown m .order)
     → shown (movedTo (m .threads) ts back m) ≡ withRanked t priority (detached t (shown m) (placeAt (shown m .places) t))
 rank-shown m t priority apart ts back r is turns =
     let slices = ap (map sliceOf) is ∙ ranked-slices apart t priority ∙ ap (ranked t priority) (r .slices) in

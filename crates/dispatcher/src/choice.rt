@@ -10,16 +10,16 @@ use rules::Running;
 use rules::Timeslice;
 use tables::ends::Verdict;
 use tables::ends::judged;
-use tables::heights::code;
-use tables::heights::fill;
-use tables::heights::park_codes;
-use tables::heights::release_set;
-use tables::heights::top_of;
 use tables::numbers::index;
 use tables::order::Sought;
-use tables::release::released;
 use tables::threads::donated;
 use tables::walk::walk;
+use timeslices::heights::code;
+use timeslices::heights::fill;
+use timeslices::heights::park_codes;
+use timeslices::heights::release_set;
+use timeslices::heights::top_of;
+use timeslices::release::released;
 
 // Where a timeslice that may not run is put aside.
 pub(crate) fn aside(verdict: Verdict, end: u8) -> Place
@@ -59,24 +59,34 @@ impl Machine {
     {
         let live = self.live_timeslices;
         let live_threads = self.live_threads;
-        let order = self.order;
         let mut followed = links;
         let mut looks = index(live) + 2;
+        let mut order = [0u8; Timeslice::LIMIT];
         let mut codes = [0u16; Timeslice::LIMIT];
         let mut heights = [0u16; Timeslice::LIMIT];
         let timeslices = self.timeslices;
-        fill(&mut codes, &mut heights, timeslices, order, live);
+        fill(
+            &mut order,
+            &mut codes,
+            &mut heights,
+            timeslices,
+            &self.after,
+            live,
+        );
         while 0 < looks {
             looks -= 1;
             // The code of Queue is 0.
             let top = top_of(&codes, &heights, &order, live, 0);
             match top {
                 Sought::Nothing => {
-                    let machine = Machine {
-                        running: Running::Nothing,
-                        ..self
+                    return Answered {
+                        machine: Machine {
+                            running: Running::Nothing,
+                            ..self
+                        },
+                        refusal: 0,
+                        links: followed,
                     };
-                    return machine.answered(0, followed);
                 }
                 Sought::At(t) => {
                     let k = index(t);
@@ -104,8 +114,11 @@ impl Machine {
                                 timeslice: t,
                                 count: chain.count,
                             };
-                            let machine = Machine { running, ..self };
-                            return machine.answered(0, followed);
+                            return Answered {
+                                machine: Machine { running, ..self },
+                                refusal: 0,
+                                links: followed,
+                            };
                         }
                         Verdict::Retries => {
                             let next = donated(threads, helper, end);
@@ -128,7 +141,7 @@ impl Machine {
                         Sought::Nothing => {}
                         Sought::At(q) => {
                             let timeslices = self.timeslices;
-                            let free = released(timeslices, order, live, set, q);
+                            let free = released(timeslices, &self.after, live, set, q);
                             self.timeslices = free;
                         }
                     }

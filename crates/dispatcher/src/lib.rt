@@ -7,19 +7,23 @@ mod doors;
 mod events;
 mod settle;
 
+use neighbours::reading::laid_out;
 use rules::Running;
 use rules::Thread;
 use rules::Timeslice;
 
+// The small fields come first: then what an answer copies beside a new `running` is in few pieces.
 pub struct Machine {
-    pub threads: [Thread; 128],
-    pub timeslices: [Timeslice; 128],
-    // The turn order, from its front; free entries hold 0.
-    pub order: [u8; 128],
+    pub running: Running,
     // L and T, the numbers of live threads and timeslices.
     pub live_threads: u8,
     pub live_timeslices: u8,
-    pub running: Running,
+    // The turn order: the timeslice before and the one after each. Entry 128 is the list's own, so that after it comes the first and
+    // before it the last; a timeslice that is not listed has 255.
+    pub before: [u8; 129],
+    pub after: [u8; 129],
+    pub threads: [Thread; 128],
+    pub timeslices: [Timeslice; 128],
 }
 
 // The machine after an event, with the answer: the refusal number, 0 for none, and the links followed.
@@ -36,28 +40,35 @@ impl Machine {
     {
         let thread = Thread::FREE;
         let timeslice = Timeslice::FREE;
+        let mut before = [255u8; 129];
+        let mut after = [255u8; 129];
+        before[128] = 128;
+        after[128] = 128;
         Machine {
-            threads: [thread; Thread::LIMIT],
-            timeslices: [timeslice; Timeslice::LIMIT],
-            order: [0; Timeslice::LIMIT],
+            running: Running::Nothing,
             live_threads: 0,
             live_timeslices: 0,
-            running: Running::Nothing,
+            before,
+            after,
+            threads: [thread; Thread::LIMIT],
+            timeslices: [timeslice; Timeslice::LIMIT],
         }
     }
 
-    // True counts, 0 in the free entries of the turn order, and the state shown is sound.
+    // A true L, neighbours that form a list of T timeslices, and the state shown is sound.
     pub fn is_sound(self) -> bool
         ensures { λ r. ⌜ r ≡ soundMachine self ⌝ }
     {
         let threads = self.threads;
         let timeslices = self.timeslices;
-        let order = self.order;
+        let before = self.before;
+        let after = self.after;
         let running = self.running;
         soundness::is_sound(
             threads,
             timeslices,
-            order,
+            before,
+            after,
             self.live_threads,
             self.live_timeslices,
             running,
@@ -69,8 +80,7 @@ impl Machine {
     pub fn turn_order(self) -> [u8; 128]
         ensures { λ r. ⌜ r ≡ turnsOf self ⌝ }
     {
-        let order = self.order;
-        order
+        laid_out(&self.after, self.live_timeslices)
     }
 
     // The answer with the machine as it is now.

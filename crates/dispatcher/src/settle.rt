@@ -1,5 +1,7 @@
 // Document 01, "Events": after an event's changes, the releases and the choice that it makes.
+ghost use mathlib.Core.Path.{_≡_};
 ghost use mathlib.Core.Option.{some};
+ghost use Rattle.rules.specs.Order.{standsAbove};
 ghost use Rattle.rules.specs.Events.{overtakes, settleIf, settle, releases, afterWalk};
 ghost use Rattle.dispatcher.specs.Shown.{shown};
 ghost use Rattle.dispatcher.specs.Choosing.{Choosable, Settled, before};
@@ -8,14 +10,34 @@ use crate::Machine;
 use rules::Chain;
 use rules::Place;
 use rules::Running;
-use tables::heights::topmost;
+use rules::Timeslice;
+use tables::numbers::index;
 use tables::numbers::wide;
-use tables::order::Sought;
-use tables::order::stands_above;
-use tables::release::release;
-use tables::release::released;
+use timeslices::release::release;
+use timeslices::release::released;
+use timeslices::search::Members;
+use timeslices::search::members_of;
 
 impl Machine {
+    // "Of two timeslices the higher priority stands above; among equals, the earlier in turn order."
+    pub fn stands_above(self, a: u8, b: u8) -> bool
+        ensures { λ r. ⌜ r ≡ standsAbove (shown self .slices) (shown self .order) a b ⌝ }
+    {
+        let j = index(a);
+        let mut high: u8 = 0;
+        if j < 128 {
+            let x = self.timeslices[j];
+            high = x.priority;
+        }
+        let k = index(b);
+        let mut low: u8 = 0;
+        if k < 128 {
+            let y = self.timeslices[k];
+            low = y.priority;
+        }
+        neighbours::standing::stands_above(&self.after, self.live_timeslices, a, high, b, low)
+    }
+
     // A timeslice joined Queue: choice if nothing runs or it stands above the current.
     pub(crate) fn overtaken(self, q: u8) -> Answered
         requires { ⌜ Choosable self 0 ⌝ }
@@ -29,10 +51,7 @@ impl Machine {
                 timeslice: t,
                 count: _,
             } => {
-                let timeslices = self.timeslices;
-                let order = self.order;
-                let live = self.live_timeslices;
-                if stands_above(timeslices, order, live, q, t) {
+                if self.stands_above(q, t) {
                     return self.choose(0);
                 }
                 self.answered(0, 0)
@@ -40,19 +59,30 @@ impl Machine {
         }
     }
 
-    // Those On a thread are released.
+    // Those On a thread are released; where there is one only, it alone changes its place.
     pub(crate) fn waiters_released(mut self, n: u8) -> Answered
         requires { ⌜ Choosable self 0 ⌝ }
         ensures { λ r. ⌜ Settled (settle (releases n (shown self))) r ⌝ }
     {
         let timeslices = self.timeslices;
-        let order = self.order;
         let live = self.live_timeslices;
-        let first = topmost(timeslices, order, live, Place::On(n));
-        match first {
-            Sought::Nothing => self.answered(0, 0),
-            Sought::At(q) => {
-                let free = released(timeslices, order, live, Place::On(n), q);
+        let waiters = members_of(timeslices, &self.after, live, Place::On(n));
+        match waiters {
+            Members::None => self.answered(0, 0),
+            Members::One(q) => {
+                let k = index(q);
+                if k < 128 {
+                    let x = self.timeslices[k];
+                    let y = Timeslice {
+                        place: Place::Queue,
+                        ..x
+                    };
+                    self.timeslices[k] = y;
+                }
+                self.overtaken(q)
+            }
+            Members::Several(q) => {
+                let free = released(timeslices, &self.after, live, Place::On(n), q);
                 self.timeslices = free;
                 self.overtaken(q)
             }
@@ -65,16 +95,17 @@ impl Machine {
         ensures { λ r. ⌜ Settled (settle (afterWalk chain blocked (shown self))) r ⌝ }
     {
         let links = wide(chain.links);
-        let timeslices = self.timeslices;
-        let order = self.order;
-        let live = self.live_timeslices;
         if chain.looped {
-            let free = release(timeslices, order, live, Place::Stalled);
+            let timeslices = self.timeslices;
+            let live = self.live_timeslices;
+            let free = release(timeslices, &self.after, live, Place::Stalled);
             self.timeslices = free;
             return self.choose(links);
         }
         if blocked {
-            let free = release(timeslices, order, live, Place::On(chain.end));
+            let timeslices = self.timeslices;
+            let live = self.live_timeslices;
+            let free = release(timeslices, &self.after, live, Place::On(chain.end));
             self.timeslices = free;
             return self.choose(links);
         }

@@ -9,7 +9,7 @@ use Rattle.event_file.specs.Left.{eventsAt, Left}
 use Rattle.event_file.proofs.Steps.{all-left}
 use Rattle.dispatcher.specs.declared.Machine.{Machine}
 use Rattle.dispatcher.specs.Shown.{shown, soundMachine, emptyMachine}
-use Rattle.dispatcher.proofs.Runs.{empty-machine-sound}
+use Rattle.dispatcher.proofs.Runs.{shows-empty, empty-machine-sound}
 use Rattle.text.specs.Line.{lineBytes}
 use Rattle.text.specs.Put.{Put}
 use Rattle.text.proofs.Puts.{reading}
@@ -60,8 +60,9 @@ pub command-none : (input out : List ℕ) {file : List ℕ} {store : Store} {m :
     → Commanding input file out out store m 5 1 left 1 0
 unfolding eventsOf
 command-none input out {file} {store} {m} {left} narrow accepted is-file no-order is-empty count =
+    let shows = shows-empty m is-empty in
     let stand : standOf store file 5 m ≡ atFirst input =
-    λ i. record { store = no-order i; state = shown (is-empty i); events = eventsAt 5 (is-file i) } in
+    λ i. record { store = no-order i; state = shows i; events = eventsAt 5 (is-file i) } in
     let whole : commandLines 1 (commandsFrom input 1 left) (standOf store file 5 m) ≡ commandLines 1 (commandsIn input) (atFirst input) =
     λ i. commandLines 1 (commandsFrom input 1 (count i)) (stand i) in
     record {

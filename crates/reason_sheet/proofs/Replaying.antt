@@ -24,6 +24,7 @@ use Rattle.event_file.proofs.Steps.{none-left}
 use Rattle.dispatcher.specs.declared.Machine.{Machine}
 use Rattle.dispatcher.specs.declared.Answered.{Answered}
 use Rattle.dispatcher.specs.Shown.{shown, emptyMachine}
+use Rattle.dispatcher.proofs.Runs.{shows-empty}
 use Rattle.dispatcher.specs.Promise.{Answers}
 use Rattle.replay.proofs.Turns.{Ahead, begins, goes-on, turn-answer}
 
@@ -41,7 +42,7 @@ begin file number m e bytes h =
     record {
       answers = run (eventsOf file) empty;
       ahead = begins file m e bytes h;
-      leads = ap (λ (k : Machine). after (take number (eventsOf file)) (shown k)) e;
+      leads = ap (after (take number (eventsOf file))) (shows-empty m e);
       counted = omega arith;
     }
 

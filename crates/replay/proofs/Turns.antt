@@ -27,7 +27,7 @@ use Rattle.dispatcher.specs.declared.Machine.{Machine}
 use Rattle.dispatcher.specs.declared.Answered.{Answered}
 use Rattle.dispatcher.specs.Shown.{shown, stored, soundMachine, emptyMachine}
 use Rattle.dispatcher.specs.Promise.{Answers}
-use Rattle.dispatcher.proofs.Runs.{empty-machine-sound, dispatched-sound}
+use Rattle.dispatcher.proofs.Runs.{shows-empty, empty-machine-sound, dispatched-sound}
 
 -- these are the answers to the events that are left from the offset on, from the machine m on
 pub record Ahead (bytes : List ℕ) (offset : ℕ) (m : Machine) (answers : List events.Answered) : Type 0 where
@@ -50,7 +50,7 @@ begins bytes m e narrow h =
       left = all-left bytes h;
       ranged = all-ranged (eventsOf bytes) (events-fit bytes narrow);
       sound = ap soundMachine e ∙ empty-machine-sound;
-      answered = ap (λ (k : Machine). run (eventsOf bytes) (shown k)) e;
+      answered = ap (run (eventsOf bytes)) (shows-empty m e);
     }
 
 -- an answer that keeps its promise is the definitions' answer

@@ -26,6 +26,7 @@ use Rattle.event_file.proofs.Steps.{none-left}
 use Rattle.dispatcher.specs.declared.Machine.{Machine}
 use Rattle.dispatcher.specs.declared.Answered.{Answered}
 use Rattle.dispatcher.specs.Shown.{shown, stored, soundMachine, emptyMachine}
+use Rattle.dispatcher.proofs.Runs.{shows-empty}
 use Rattle.dispatcher.specs.Promise.{Answers}
 use Rattle.replay.proofs.Turns.{Ahead, begins, goes-on, turn-answer}
 use Rattle.shares_sheet.specs.Tallies.{Room, Added, Tallied}
@@ -49,7 +50,7 @@ pub begin : (file : List ℕ) (m : Machine) → m ≡ emptyMachine → Bytes fil
 unfolding begins
 begin file m e bytes h =
     let es = eventsOf file in
-    let same : paidIn es (shown m) ≡ paymentsOf es = ap (λ (k : Machine). paidIn es (shown k)) e in
+    let same : paidIn es (shown m) ≡ paymentsOf es = ap (paidIn es) (shows-empty m e) in
     record {
       answers = run es empty;
       ahead = begins file m e bytes h;

@@ -9,7 +9,7 @@ use lib.ListN.{length, take, drop, length-append, length-drop}
 use lib.Seq.{append-snoc, take-take, take-at, take-length, length-take-le}
 use Rattle.rules.specs.declared.Event.{Event}
 use Rattle.rules.specs.EventFile.{recordOf, recordsOf}
-use Rattle.rules.specs.State.{empty}
+use Rattle.rules.specs.State.{State, empty}
 use Rattle.rules.specs.Shorten.{refusedFrom, refusedIn, pass, shortened}
 use Rattle.rules.proofs.Files.Appending.{recordsOf-one}
 use Rattle.rules.proofs.Shortening.Passing.{Passed, whole, fewer, passed, pass-part, pass-refused}
@@ -17,6 +17,7 @@ use Rattle.rules.proofs.Shortening.Repeating.{again as pass-again, cut-off, las
 use Rattle.rules.proofs.Shortening.Shorter.{part-records}
 use Rattle.dispatcher.specs.declared.Machine.{Machine}
 use Rattle.dispatcher.specs.Shown.{shown, emptyMachine}
+use Rattle.dispatcher.proofs.Runs.{shows-empty}
 use Rattle.event_file.specs.Left.{eventsAt}
 use Rattle.shorten_sheet.specs.Standing.{Stand, Apart}
 use Rattle.shorten_sheet.specs.Promises.{Asks, FirstAsked, Keeps, Rests, triedFrom}
@@ -60,7 +61,7 @@ module _ {k : ℕ} {before now : List ℕ} {from to : ℕ} {goal : List Event} (
   -- the first event refused with the number
   module _ {m : Machine} (begins : m ≡ emptyMachine) {r : Asked} (x : Asks k (eventsAt from (take to now)) (shown m) from r) where
     from-empty : (es : List Event) → refusedFrom k es (shown m) ≡ refusedIn k es
-    from-empty es = ap (λ (n : Machine). refusedFrom k es (shown n)) begins
+    from-empty es = ap (refusedFrom k es) (shows-empty m begins)
 
     first : FirstAsked k (eventsAt from (take to now)) (shown m) from r
     first = x .first (x .found ∙ from-empty (eventsAt from (take to now)) ∙ ap (refusedIn k) (events-at (t .stands)) ∙ t .asked)
@@ -113,7 +114,8 @@ module _ {k : ℕ} {before now : List ℕ} {from to : ℕ} {goal : List Event} (
 
     its-pass : {n : Machine} → n ≡ emptyMachine → kept n ≡ pass k cut
     its-pass {n} e =
-        ap kept e
+        ap (λ (s : State). triedFrom k s (reverse (eventsAt from (take (r .at) (take (r .to) now)))) (eventsAt (r .at) (take (r .to) now)))
+        (shows-empty n e)
         ∙ ap₂ (λ (l l′ : List Event). triedFrom k empty (reverse l) l′) (events-at before-stands) (events-at event-stands)
         ∙ sym (from-start k (reverse (first .before)) (first .event ∷ [])
         (ap (refusedIn k) (reverse-reverse (first .before)) ∙ quiet))

@@ -71,11 +71,11 @@ pub verdict-test : (threads : List Thread) (f : Chain → Verdict → Bool) (cha
 verdict-test threads f chain c said r e v w = e ∙ ap (f chain) v ∙ ap (λ (d : Chain). f d (verdict threads d)) w
 
 -- the test of a place, by the place
-pub place-is : (threads : List Thread) (ts : List Timeslice) (order : List ℕ) (most live t : ℕ) (x : Timeslice) (p : Place)
+pub place-is : (threads : List Thread) (ts : List Timeslice) (turns : List ℕ) (most t : ℕ) (x : Timeslice) (p : Place)
     → x ≡ getD ts t freeTimeslice → x .place ≡ p
-    → placeGood (partsOf threads ts order live Nothing) t (chainWithin most threads ts t) p ≡ placeTest threads ts order most live t
-place-is threads ts order most live t x p e told =
-    ap (placeGood (partsOf threads ts order live Nothing) t (chainWithin most threads ts t))
+    → placeGood (partsOf threads ts turns Nothing) t (chainWithin most threads ts t) p ≡ placeTest threads ts turns most t
+place-is threads ts turns most t x p e told =
+    ap (placeGood (partsOf threads ts turns Nothing) t (chainWithin most threads ts t))
     (sym told ∙ place-test (λ (q : Place). q) ts t x e)
 
 -- the topmost in Queue is the current timeslice
@@ -88,11 +88,11 @@ pub current-other : (threads : List Thread) (c : Chain) (q n t count : ℕ) (now
 current-other threads c q n t count now told other = rw (told, ne-eqb t q other) refl
 
 -- what settles a state, by the topmost in Queue
-module _ (most : ℕ) (threads : List Thread) (ts : List Timeslice) (order : List ℕ) (live : ℕ) (now : Running) (top : Sought)
-    (is : soughtOf top ≡ topmostAt inQueue (partsOf threads ts order live now)) (r : Bool) where
-  pub settled-none : top ≡ Empty → r ≡ nothingRuns now → r ≡ settledWithin most threads ts order live now
+module _ (most : ℕ) (threads : List Thread) (ts : List Timeslice) (turns : List ℕ) (now : Running) (top : Sought)
+    (is : soughtOf top ≡ topmostAt inQueue (partsOf threads ts turns now)) (r : Bool) where
+  pub settled-none : top ≡ Empty → r ≡ nothingRuns now → r ≡ settledWithin most threads ts turns now
   settled-none told e = e ∙ ap (settledBy threads (chainWithin most threads ts) now) (sym (ap soughtOf told) ∙ is)
 
   pub settled-some : (q : ℕ) → top ≡ At q → r ≡ runsOn threads (chainWithin most threads ts q) q now
-      → r ≡ settledWithin most threads ts order live now
+      → r ≡ settledWithin most threads ts turns now
   settled-some q told e = e ∙ ap (settledBy threads (chainWithin most threads ts) now) (sym (ap soughtOf told) ∙ is)

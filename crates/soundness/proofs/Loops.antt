@@ -16,6 +16,9 @@ use Rattle.rules.proofs.Basics.Views.{and-true-both, and-false-right}
 use Rattle.tables.specs.Turning.{entriesOf}
 use Rattle.tables.proofs.Lookups.{take-entries}
 use Rattle.tables.proofs.Along.{Along, here, next, out}
+use Rattle.neighbours.specs.Sides.{neighbour}
+use Rattle.neighbours.specs.Reading.{turnsRead}
+use Rattle.neighbours.proofs.Stepping as steps
 
 module _ (f : ℕ → Bool) where
   -- the test holds of the numbers below n
@@ -46,24 +49,26 @@ module _ (f : ℕ → Bool) where
   pub one-fails : (n : ℕ) (r : Bool) → n < 128 → r ≡ f n → r ≡ false → false ≡ below limit f
   one-fails n r short e h = sym (below-no 128 n short (sym e ∙ h))
 
-module _ (f : ℕ → Bool) (live : ℕ) (order : List ℕ) (n i : ℕ) (full : length order ≡ 128) (a : Along (λ l. all f l) live order n i) where
-  -- an entry passes
-  pub all-more : (r : Bool) → i < n → r ≡ f (getD order i 0) → r ≡ true → Along (λ l. all f l) live order n (i + 1)
-  unfolding all
-  all-more r short e h =
-      let yes : f (getD order i 0) ≡ true = sym e ∙ h in
-      next (λ l. all f l) live order n i full a short (rw yes refl)
+-- along the turn order
+module _ (f : ℕ → Bool) (after : List ℕ) (live left at : ℕ) where
+  module _ (t : ℕ) (a : steps.Along (λ l. all f l) after live left at) (some : 0 < left) (is : t ≡ neighbour after at) where
+    -- a timeslice passes
+    pub all-more : (r : Bool) → r ≡ f t → r ≡ true → steps.Along (λ l. all f l) after live (left - 1) t
+    unfolding all
+    all-more r e h =
+        let yes : f t ≡ true = sym e ∙ h in
+        steps.next (λ l. all f l) after live left at t a some is (rw yes refl)
 
-  -- an entry fails
-  pub all-fails : (r : Bool) → i < n → r ≡ f (getD order i 0) → r ≡ false → false ≡ all f (take live order)
-  unfolding all
-  all-fails r short e h =
-      let no : f (getD order i 0) ≡ false = sym e ∙ h in
-      rw no at (here (λ l. all f l) live order n i full a short)
+    -- a timeslice fails
+    pub all-fails : (r : Bool) → r ≡ f t → r ≡ false → false ≡ all f (turnsRead after live)
+    unfolding all
+    all-fails r e h =
+        let no : f t ≡ false = sym e ∙ h in
+        rw no at (steps.here (λ l. all f l) after live left at t a some is)
 
-  pub all-passed : n ≤ i → true ≡ all f (take live order)
+  pub all-passed : steps.Along (λ l. all f l) after live left at → left ≤ 0 → true ≡ all f (turnsRead after live)
   unfolding all
-  all-passed past = out (λ l. all f l) live order n i full a past
+  all-passed a past = steps.out (λ l. all f l) after live left at a past
 
 -- "once each": no entry stands again after itself
 module _ (live : ℕ) (order : List ℕ) (n i : ℕ) (full : length order ≡ 128) (a : Along (λ l. distinct l) live order n i) where

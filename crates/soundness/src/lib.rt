@@ -1,6 +1,7 @@
 // Document 01, "A sound machine": the test over the parts of a stored machine. Each clause has its module; each_number goes once through
 // the slots and each_turn once along the turn order, and ask every clause there.
 ghost use mathlib.Core.Path.{_≡_};
+ghost use Rattle.neighbours.specs.Sides.{sides};
 ghost use Rattle.soundness.specs.Parts.{soundParts};
 
 mod calls;
@@ -14,7 +15,6 @@ mod owners;
 mod places;
 mod ranges;
 mod running;
-mod stored_form;
 pub mod turn_order;
 mod walk_ends;
 
@@ -24,33 +24,41 @@ use crate::logic::both;
 use crate::owners::owners_apart;
 use crate::running::is_settled;
 use crate::turn_order::listed_once;
+use neighbours::forming::leads_back;
+use neighbours::reading::laid_out;
 use rules::Running;
 use rules::Thread;
 use rules::Timeslice;
 use tables::lives::count_live;
 
-// True counts, 0 in the free entries of the turn order, and the state shown is sound. The tables are full by their types.
+// A true L, neighbours that form a list of T timeslices, and the state shown is sound. The tables and sides are full by their types.
 pub fn is_sound(
     threads: [Thread; 128],
     timeslices: [Timeslice; 128],
-    order: [u8; 128],
+    before: [u8; 129],
+    after: [u8; 129],
     live_threads: u8,
     live: u8,
     running: Running,
 ) -> bool
-    ensures { λ r. ⌜ r ≡ soundParts threads timeslices order «live_threads» live running ⌝ }
+    ensures { λ r. ⌜ r ≡ soundParts threads timeslices (sides before after) «live_threads» live running ⌝ }
 {
     let counted = live_threads == count_live(threads);
     let counts = both(counted, live <= 128);
-    let numbers = both(counts, numbers_good(threads, timeslices, order, live));
+    let list = both(counts, leads_back(&before, &after, live));
+    let numbers = both(
+        list,
+        numbers_good(threads, timeslices, &before, &after, live),
+    );
     let turns = both(
         numbers,
-        turns_good(threads, timeslices, order, live_threads, live),
+        turns_good(threads, timeslices, &after, live_threads, live),
     );
+    let order = laid_out(&after, live);
     let once = both(turns, listed_once(order, live));
     let apart = both(once, owners_apart(timeslices, order, live));
     both(
         apart,
-        is_settled(threads, timeslices, order, live_threads, live, running),
+        is_settled(threads, timeslices, &after, live_threads, live, running),
     )
 }

@@ -2,6 +2,7 @@
 // ends, Ready, at the running thread, with the stored count."
 ghost use mathlib.Core.Path.{_≡_};
 ghost use Rattle.rules.specs.State.{nothingRuns};
+ghost use Rattle.neighbours.specs.Reading.{turnsRead};
 ghost use Rattle.soundness.specs.Parts.{chainWithin, runsOn, settledWithin};
 use crate::walk_ends::runs_as;
 use rules::Place;
@@ -9,10 +10,10 @@ use rules::Running;
 use rules::Thread;
 use rules::Timeslice;
 use tables::ends::verdict_of;
-use tables::heights::topmost;
 use tables::lookup::timeslice_at;
 use tables::order::Sought;
 use tables::walk::walk;
+use timeslices::search::topmost;
 
 pub(crate) fn nothing_runs(running: Running) -> bool
     ensures { λ r. ⌜ r ≡ nothingRuns running ⌝ }
@@ -57,14 +58,14 @@ pub(crate) fn runs_on(
 pub(crate) fn is_settled(
     threads: [Thread; 128],
     timeslices: [Timeslice; 128],
-    order: [u8; 128],
+    after: &[u8; 129],
     live_threads: u8,
     live: u8,
     running: Running,
 ) -> bool
-    ensures { λ r. ⌜ r ≡ settledWithin «live_threads» threads timeslices order live running ⌝ }
+    ensures { λ r. ⌜ r ≡ settledWithin «live_threads» threads timeslices (turnsRead (now (after .entry)) live) running ⌝ }
 {
-    let top = topmost(timeslices, order, live, Place::Queue);
+    let top = topmost(timeslices, after, live, Place::Queue);
     match top {
         Sought::Nothing => nothing_runs(running),
         Sought::At(q) => runs_on(threads, timeslices, live_threads, q, running),

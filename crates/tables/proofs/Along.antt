@@ -2,9 +2,11 @@
 use Prim.Native.Nat.{ℕ, suc, _+_, _≤_, _<_}
 use mathlib.Core.Path.{_≡_, refl, sym, _∙_, ap}
 use mathlib.Core.List.{List, [], _∷_}
+use mathlib.Core.Bool.{Bool, true, false}
 use native.Mathlib.Omega.{arith}
 use native.Mathlib.Numerals.{add-one}
 use lib.ListN.{length, getD, take, drop}
+use Rattle.rules.specs.Tests.{all}
 use Rattle.tables.specs.Turning.{entriesOf}
 use Rattle.tables.proofs.Lookups.{turn, turns-out}
 
@@ -38,3 +40,23 @@ module _ {A : Type 0} (f : List ℕ → A) (live : ℕ) (order : List ℕ) {from
 
   pub out : n ≤ i → f [] ≡ f (drop from (take live order))
   out past = rw (turns-out order live i full (omega (arith, a .last))) at (a .rest)
+
+-- a test of every entry
+module _ (f : ℕ → Bool) (live : ℕ) (order : List ℕ) (n i : ℕ) (full : length order ≡ 128) (a : Along (λ l. all f l) live order n i) where
+  -- an entry passes
+  pub all-more : (r : Bool) → i < n → r ≡ f (getD order i 0) → r ≡ true → Along (λ l. all f l) live order n (i + 1)
+  unfolding all
+  all-more r short e h =
+      let yes : f (getD order i 0) ≡ true = sym e ∙ h in
+      next (λ l. all f l) live order n i full a short (rw yes refl)
+
+  -- an entry fails
+  pub all-fails : (r : Bool) → i < n → r ≡ f (getD order i 0) → r ≡ false → false ≡ all f (take live order)
+  unfolding all
+  all-fails r short e h =
+      let no : f (getD order i 0) ≡ false = sym e ∙ h in
+      rw no at (here (λ l. all f l) live order n i full a short)
+
+  pub all-passed : n ≤ i → true ≡ all f (take live order)
+  unfolding all
+  all-passed past = out (λ l. all f l) live order n i full a past

@@ -2,6 +2,4 @@
 pub mod Timeslices
 pub mod Sets
 pub mod Turning
-pub mod Releasing
-pub mod Codes
 pub mod Verdicts

@@ -14,7 +14,7 @@ use Rattle.dispatcher.specs.declared.Answered as dispatcher
 use Rattle.dispatcher.specs.Shown.{shown, soundMachine}
 use Rattle.dispatcher.specs.Shown as machines
 use Rattle.dispatcher.proofs.Stored.{sound-shown}
-use Rattle.dispatcher.proofs.Runs.{Runs, empty-machine-sound}
+use Rattle.dispatcher.proofs.Runs.{Runs, empty-shown, empty-machine-sound}
 use Rattle.dispatcher.proofs.Demands.{Same, AllSame, demand-3}
 use Rattle.plain_engine.specs.declared.PlainMachine.{PlainMachine}
 use Rattle.plain_engine.specs.declared.Answered as plain
@@ -76,4 +76,4 @@ agree-from {m} {n} {es} {rs} {qs} h e f x y =
     (subst (AllPlainly es qs) e (plain-engine .from-sound y f of-sound))
 
 pub two-engines : TwoEngines
-two-engines = record { from-sound = agree-from; from-empty = λ f x y. agree-from empty-machine-sound refl f x y }
+two-engines = record { from-sound = agree-from; from-empty = λ f x y. agree-from empty-machine-sound (ap forget (sym empty-shown)) f x y }

@@ -49,7 +49,7 @@ pub fn without_places(machine: Machine) -> PlainMachine
 {
     let threads = machine.threads;
     let timeslices = machine.timeslices;
-    let order = machine.order;
+    let order = machine.turn_order();
     let running = machine.running;
     let slices = slices_of(timeslices);
     PlainMachine {

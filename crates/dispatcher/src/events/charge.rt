@@ -11,12 +11,12 @@ ghost use Rattle.dispatcher.specs.Shown.{shown, soundMachine};
 ghost use Rattle.dispatcher.specs.Promise.{Answers};
 use crate::Answered;
 use crate::Machine;
+use neighbours::joining::move_back;
 use rules::Place;
 use rules::Running;
 use rules::Timeslice;
 use tables::numbers::index;
-use tables::release::release;
-use tables::turns::to_back;
+use timeslices::release::release;
 
 impl Machine {
     // The current timeslice goes to the back and is Spent, and its followers are released.
@@ -37,11 +37,13 @@ impl Machine {
         };
         self.timeslices[k] = y;
         let timeslices = self.timeslices;
-        let order = self.order;
         let live = self.live_timeslices;
-        let back = to_back(order, live, t);
-        self.order = back;
-        let free = release(timeslices, back, live, Place::Behind(t));
+        let mut before = self.before;
+        let mut after = self.after;
+        move_back(&mut before, &mut after, t);
+        self.before = before;
+        self.after = after;
+        let free = release(timeslices, &self.after, live, Place::Behind(t));
         self.timeslices = free;
         self.choose(0)
     }

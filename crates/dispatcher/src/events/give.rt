@@ -7,11 +7,12 @@ ghost use Rattle.dispatcher.specs.Shown.{shown, soundMachine};
 ghost use Rattle.dispatcher.specs.Promise.{Answers};
 use crate::Answered;
 use crate::Machine;
+use neighbours::joining::append;
+use neighbours::reading::is_listed;
 use rules::Place;
 use rules::Timeslice;
 use tables::numbers::index;
-use tables::order::member;
-use tables::order::owns_one;
+use timeslices::search::owns_one;
 
 impl Machine {
     pub(crate) fn dispatch_give(mut self, t: u8, n: u8, priority: u8, quantum: u16) -> Answered
@@ -24,9 +25,7 @@ impl Machine {
         if 127 < n {
             return self.answered(2, 0);
         }
-        let order = self.order;
-        let live = self.live_timeslices;
-        if member(order, live, t) {
+        if is_listed(&self.after, t) {
             return self.answered(3, 0);
         }
         let k = index(n);
@@ -35,7 +34,8 @@ impl Machine {
             return self.answered(4, 0);
         }
         let timeslices = self.timeslices;
-        if owns_one(timeslices, order, live, n) {
+        let live = self.live_timeslices;
+        if owns_one(timeslices, &self.after, live, n) {
             return self.answered(13, 0);
         }
         if quantum == 0 {
@@ -50,8 +50,11 @@ impl Machine {
             place: Place::Queue,
         };
         self.timeslices[j] = new;
-        let i = index(live);
-        self.order[i] = t;
+        let mut before = self.before;
+        let mut after = self.after;
+        append(&mut before, &mut after, t);
+        self.before = before;
+        self.after = after;
         self.live_timeslices = live + 1;
         self.overtaken(t)
     }

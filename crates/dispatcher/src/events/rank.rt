@@ -7,10 +7,10 @@ ghost use Rattle.dispatcher.specs.Shown.{shown, soundMachine};
 ghost use Rattle.dispatcher.specs.Promise.{Answers};
 use crate::Answered;
 use crate::Machine;
-use tables::order::member;
-use tables::rank::detached;
-use tables::rank::with_priority;
-use tables::turns::to_back;
+use neighbours::joining::move_back;
+use neighbours::reading::is_listed;
+use timeslices::rank::detached;
+use timeslices::rank::with_priority;
 
 impl Machine {
     pub(crate) fn dispatch_rank(mut self, t: u8, priority: u8) -> Answered
@@ -20,17 +20,19 @@ impl Machine {
         if 127 < t {
             return self.answered(2, 0);
         }
-        let order = self.order;
-        let live = self.live_timeslices;
-        if !member(order, live, t) {
+        if !is_listed(&self.after, t) {
             return self.answered(4, 0);
         }
         let timeslices = self.timeslices;
-        let apart = detached(timeslices, order, live, t);
+        let live = self.live_timeslices;
+        let apart = detached(timeslices, &self.after, live, t);
         let ranked = with_priority(apart, t, priority);
         self.timeslices = ranked;
-        let back = to_back(order, live, t);
-        self.order = back;
+        let mut before = self.before;
+        let mut after = self.after;
+        move_back(&mut before, &mut after, t);
+        self.before = before;
+        self.after = after;
         self.choose(0)
     }
 }

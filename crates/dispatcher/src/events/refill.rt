@@ -7,10 +7,10 @@ ghost use Rattle.dispatcher.specs.Shown.{shown, soundMachine};
 ghost use Rattle.dispatcher.specs.Promise.{Answers};
 use crate::Answered;
 use crate::Machine;
+use neighbours::reading::is_listed;
 use rules::Place;
 use rules::Timeslice;
 use tables::numbers::index;
-use tables::order::member;
 
 impl Machine {
     pub(crate) fn dispatch_refill(mut self, t: u8) -> Answered
@@ -20,9 +20,7 @@ impl Machine {
         if 127 < t {
             return self.answered(2, 0);
         }
-        let order = self.order;
-        let live = self.live_timeslices;
-        if !member(order, live, t) {
+        if !is_listed(&self.after, t) {
             return self.answered(4, 0);
         }
         let k = index(t);

@@ -13,16 +13,16 @@ ghost use Rattle.dispatcher.specs.Shown.{shown, soundMachine};
 ghost use Rattle.dispatcher.specs.Promise.{Answers};
 use crate::Answered;
 use crate::Machine;
+use neighbours::joining::strike_out;
 use rules::Place;
 use rules::Timeslice;
 use tables::ends::end_blocked;
 use tables::numbers::index;
 use tables::order::Sought;
-use tables::order::own;
-use tables::release::release;
 use tables::threads::removed;
-use tables::turns::strike_out;
 use tables::walk::walk;
+use timeslices::release::release;
+use timeslices::search::own;
 
 impl Machine {
     // The timeslice leaves the turn order, its slot is free, and its followers are released.
@@ -36,13 +36,15 @@ impl Machine {
         let slot = Timeslice::FREE;
         self.timeslices[k] = slot;
         let timeslices = self.timeslices;
-        let order = self.order;
         let live = self.live_timeslices;
-        let rest = strike_out(order, live, t);
+        let mut before = self.before;
+        let mut after = self.after;
+        strike_out(&mut before, &mut after, t);
+        self.before = before;
+        self.after = after;
         let fewer = live - 1;
-        self.order = rest;
         self.live_timeslices = fewer;
-        let free = release(timeslices, rest, fewer, Place::Behind(t));
+        let free = release(timeslices, &self.after, fewer, Place::Behind(t));
         self.timeslices = free;
         self
     }
@@ -52,8 +54,7 @@ impl Machine {
         ensures { λ r. ⌜ Shows (strikeOut (ownOf (shown self .slices) n (shown self .order)) (shown self)) r ⌝ }
     {
         let timeslices = self.timeslices;
-        let order = self.order;
-        let found = own(timeslices, order, self.live_timeslices, n);
+        let found = own(timeslices, &self.after, self.live_timeslices, n);
         match found {
             Sought::Nothing => self,
             Sought::At(t) => self.struck_out(t),

@@ -8,9 +8,8 @@ use denote.Ref.{now}
 use borrow.Author.Tests.{not-true, not-false}
 use Rattle.rules.specs.EventFile.{Bytes, fileRefusal, eventsOf}
 use Rattle.rules.specs.Shorten.{refusedFrom, refusedIn, shorterIf, shorter}
-use Rattle.dispatcher.specs.declared.Machine.{Machine}
-use Rattle.dispatcher.specs.Shown.{shown, soundMachine}
-use Rattle.dispatcher.proofs.Runs.{empty-machine-sound}
+use Rattle.dispatcher.specs.Shown.{soundMachine}
+use Rattle.dispatcher.proofs.Runs.{shows-empty, empty-machine-sound}
 use Rattle.text.proofs.Puts.{at-front, reading}
 use Rattle.event_file.specs.Left.{eventsAt}
 use Rattle.shorten_sheet.proofs.Room.{shorter-fits}
@@ -82,7 +81,7 @@ asked c =
     let k = getD input 0 0 in
     let file = fileBehind input in
     sym (c .ask .ensures .found
-    ∙ ap (λ (m : Machine). refusedFrom k (eventsAt 5 file) (shown m)) (made .empty .ensures)
+    ∙ ap (refusedFrom k (eventsAt 5 file)) (shows-empty _ (made .empty .ensures))
     ∙ ap (refusedIn k) (file-events file (file-narrow input (narrow known)) (accepted tested)))
 
 -- what is written then, and that it has room

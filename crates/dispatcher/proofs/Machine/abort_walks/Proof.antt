@@ -24,7 +24,7 @@ settled-after-requires c κs =
     let start = at-walk .before .before in
     let m = start .args .self in
     let n = start .args .n in
-    let full : length (m .threads) ≡ 128 = simp length-map at (start .good .0 .1 .1 .0 .1 .0 .1) in
+    let full : length (m .threads) ≡ 128 = simp length-map at (start .good .0 .1 .1 .1 .1 .1 .1 .1 .0 .1 .0 .1) in
     record {
       exact = threads-exact m _ (aborted n (m .threads)) (start .pre .exact) (c .aborted .ensures) (aborted-relabels (m .threads) n .count);
       few = few-links (m .threads) n _ full (walked at-walk);

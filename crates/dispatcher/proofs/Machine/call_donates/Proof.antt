@@ -16,14 +16,14 @@ add-t10 c = omega (arith, c .before .before .pre .1)
 
 waiters-released-requires : tie.Need-waiters-released-requires
 waiters-released-requires c κs =
-    let start = c .before .before .before .before .before in
-    choosable _ (running-exact (start .args .self) _ _ _ (start .pre .0 .exact) (c .before .before .before .donated .ensures)
+    let start = c .before .before .before .before .before .before in
+    choosable _ (running-exact (start .args .self) _ _ _ (start .pre .0 .exact) (c .before .before .before .before .donated .ensures)
     (donate-relabels _ _ _ .count))
 
 returns : tie.Need-returns
 unfolding callDonates
 returns c =
-    let at-donated = c .before .before .before .before in
+    let at-donated = c .before .before .before .before .before in
     let start = at-donated .before .before in
     let a = start .args in said-of (releases (a .server)) (runningTo _ _ (a .self)) _ _
     (running-shown (a .self) _ _ _ (at-donated .donated .ensures)) (c .waiters-released .ensures)

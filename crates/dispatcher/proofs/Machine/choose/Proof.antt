@@ -11,10 +11,10 @@ use Rattle.tables.specs.Verdicts.{verdictOf}
 use Rattle.tables.specs.Sets.{setOf}
 use Rattle.tables.proofs.Lookups.{owns, owns-none, held, held-none}
 use Rattle.tables.proofs.Walks.{walks}
-use Rattle.tables.proofs.Searches.{coded-by}
-use Rattle.tables.proofs.Recodings.{freed-none, freed-some}
+use Rattle.timeslices.proofs.Searches.{coded-by, ordered-by}
+use Rattle.timeslices.proofs.Recodings.{freed-none, freed-some}
 use Rattle.dispatcher.proofs.ChoiceLoop.{Choosing, begin, lives-are, tops-queue, out, Look, looked, runs-none, runs-at, goes-on}
-use Rattle.dispatcher.proofs.ChoiceLoop.{stateOf}
+use Rattle.dispatcher.proofs.ChoiceLoop.{stateOf, as-laid}
 use Rattle.dispatcher.proofs.ChoiceLoop.{put-aside, none-aside, none-queued, Unreleased, unreleased-retry, unreleased-aside}
 use borrow.Author.Needs.{needs}
 use native.Mathlib.Omega.{arith}
@@ -22,19 +22,19 @@ use Rattle.dispatcher.proofs.Machine.choose.Statement.{statement}
 use Rattle.dispatcher.proofs.Machine.choose.Tie as tie
 
 abbrev Inv-loop : tie.InvT-loop
-Inv-loop links self₀ live live-threads order followed₀ looks₀ codes₀ heights self followed looks codes = Choosing self₀ links live
+Inv-loop links self₀ live live-threads followed₀ looks₀ order codes₀ heights self followed looks codes = Choosing self₀ links live
     live-threads order self followed looks codes heights
 
 abbrev μ-loop : tie.MeasureT-loop
-μ-loop links self₀ live live-threads order followed₀ looks₀ codes₀ heights self followed looks codes = looks
+μ-loop links self₀ live live-threads followed₀ looks₀ order codes₀ heights self followed looks codes = looks
 
 -- the topmost timeslice in Queue, its chain, and the verdict of its end
 look : (c : tie.After-judged Inv-loop μ-loop) (v : Said) → c .judged .result ≡ v
     → let walked = c .before .before .before .before in
     let told = walked .before .before .before .before .before in
     let turn = told .before .before .before .before .before .before .before in
-    let start = turn .before .before .before .before .before .before .before in
-    Look (stateOf (turn .loop .self) (start .args .t1 .«live_timeslices») (start .args .t1 .order)) (told .top .given .0 .0)
+    let start = turn .before .before .before .before .before .before .before .before .before in
+    Look (stateOf (turn .loop .self) (start .args .t1 .«live_timeslices») (turn .before .fill .last .0)) (told .top .given .0 .0)
     (walked .walk .result) (verdictOf v)
 look c v is =
     let held-at = c .before in
@@ -65,21 +65,21 @@ unreleased : (c : tie.At-match2-came Inv-loop μ-loop)
     let told = walked .before .before .before .before .before in
     let turn = told .before .before .before .before .before .before .before in
     let filled = turn .before in
-    let start = filled .before .before .before .before .before .before in
-    Unreleased (turn .loop .self) (start .args .t1 .«live_timeslices») (start .args .t1 .order) (told .top .given .0 .0)
+    let start = filled .before .before .before .before .before .before .before .before in
+    Unreleased (turn .loop .self) (start .args .t1 .«live_timeslices») (filled .fill .last .0) (told .top .given .0 .0)
     (walked .walk .result)
-    (judged .judged .result) (c .match2 .self) (c .match2 .codes) (filled .fill .last .1 .0)
+    (judged .judged .result) (c .match2 .self) (c .match2 .codes) (filled .fill .last .1 .1 .0)
 unreleased c =
     let judged = c .before in
     let walked = judged .before .before .before .before in
     let indexed = walked .before .before .before .index2 .ensures in
     let told = walked .before .before .before .before .before in
     let turn = told .before .before .before .before .before .before .before in
-    let start = turn .before .before .before .before .before .before .before in
+    let start = turn .before .before .before .before .before .before .before .before .before in
     let m = turn .loop .self in
     let w = turn .loop .inv in
     let live = start .args .t1 .«live_timeslices» in
-    let order = start .args .t1 .order in
+    let order = turn .before .fill .last .0 in
     let n = c .match2 .self in
     let said = judged .judged .result in
     ⊎-elim
@@ -97,13 +97,16 @@ add-looks c = search needs
 
 loop-holds : tie.Need-loop-holds Inv-loop μ-loop
 loop-holds c =
-    let filled = c .before in
-    let start = filled .before .before .before .before .before in
-    let owns = start .good .0 .1 .1 in
+    let at-index = c .before .before .before .before .before .before .before in
+    let start = at-index .before in
+    let tables = start .good .0 .1 .1 .1 .1 .1 .1 .1 in
     let m = start .args .t1 in
-    let codes = coded-by (m .timeslices) (m .order) (m .«live_timeslices») _ _ _ _ refl refl (c .fill .ensures .0) (c .fill .ensures .1) in
-    begin _ _ _ _ _ (start .pre) (simp length-map at (owns .0 .1 .0 .1)) (simp length-map at (owns .1 .0 .1 .0 .1))
-    (ap (λ (k : ℕ). k + 2) (filled .before .before .before .index .ensures)) codes
+    let filled = c .fill .ensures in
+    let order = ordered-by (m .after) (m .«live_timeslices») _ _ refl (filled .0) in
+    let codes = coded-by (m .timeslices) (m .after) (m .«live_timeslices») _ _ _ _ _ _ refl refl refl (filled .0) (filled .1 .0)
+    (filled .1 .1) in
+    begin _ _ _ _ _ (start .pre) (simp length-map at (tables .0 .1 .0 .1)) (simp length-map at (tables .1 .0 .1 .0 .1))
+    (ap (λ (k : ℕ). k + 2) (at-index .index .ensures)) _ (order .1) (order .0) codes
 
 sub-looks : tie.Need-sub-looks Inv-loop μ-loop
 sub-looks c = omega arith
@@ -118,7 +121,7 @@ returns c =
     let tested = told .before .before .before .before .before .before in
     let w = tested .before .loop .inv in
     let top = tops-queue _ _ _ _ _ _ _ _ _ _ w (sought .result) (sought .ensures) in
-    rw (c .answered .ensures) (runs-none _ _ _ _ _ _ _ _ _ _ w (sought .result) (tested .loop-test .taken) top (told .enum-told .given .1))
+    runs-none _ _ _ _ _ _ _ _ _ _ w (sought .result) (tested .loop-test .taken) top (told .enum-told .given .1)
 
 enum-known-top : tie.Need-enum-known-top Inv-loop μ-loop
 enum-known-top c = search needs
@@ -149,9 +152,8 @@ returns-2 c =
     let judged = told .before .before in
     let added = judged .before .before .before in
     let tested = added .before .before .before .before .before .before .before .before .before .before .before .before in
-    rw (c .answered2 .ensures)
-    (runs-at _ _ _ _ _ _ _ _ _ _ (tested .before .loop .inv) _ _ _ (tested .loop-test .taken) (added .added .ensures)
-    (look judged Runs (told .enum-told2 .given .1)))
+    runs-at _ _ _ _ _ _ _ _ _ _ (tested .before .loop .inv) _ _ _ (tested .loop-test .taken) (added .added .ensures)
+    (look judged Runs (told .enum-told2 .given .1))
 
 enum-told-3 : tie.Need-enum-told-3 Inv-loop μ-loop
 enum-told-3 c = search needs
@@ -202,14 +204,14 @@ enum-known-first c = search needs
 
 loop-less-2 : tie.Need-loop-less-2 Inv-loop μ-loop
 loop-less-2 c =
-    let joined = c .before .before .before .before .before .before .before .before .before .before in
+    let joined = c .before .before .before .before .before .before .before .before .before .before .before .before in
     let added = joined .before .before .before .before in
     let tested = added .before .before .before .before .before .before .before .before .before .before .before .before in
     omega (arith, tested .loop-test .taken)
 
 loop-again-2 : tie.Need-loop-again-2 Inv-loop μ-loop
 loop-again-2 c =
-    let told = c .before .before .before in
+    let told = c .before .before .before .before .before in
     let set-free = told .before .before in
     let chosen = set-free .before .before .before .before in
     let done = chosen .before in
@@ -223,18 +225,18 @@ loop-again-2 c =
     let freed = chosen .freed-by in
     let queued = ap (λ (p : Place). setOf p Queue) (freed .ensures) ∙ none-queued said _ _ in
     let free = freed-some (n .timeslices) _ _ _ _ _ (freed .result) (set-free .release-set .result) (w .entries) (before-it .coded)
-    (set-free .release-set .ensures .0) (set-free .release-set .ensures .1) _ _ queued (told .first .given .1) (c .released .ensures) in
+    (set-free .release-set .ensures .0) (set-free .release-set .ensures .1) _ _ queued (told .first .given .1)
+    (as-laid _ _ _ _ _ _ _ _ _ _ w _ _ _ _ _ before-it _ _ _ (c .released .ensures)) in
     goes-on _ _ _ _ _ _ _ _ _ _ w _ _ _ said n _ _ _ (tested .loop-test .taken) (added .added .ensures) (look judged said refl) before-it
     (rw (freed .ensures) at free)
 
 returns-3 : tie.Need-returns-3 Inv-loop μ-loop
-returns-3 c = rw (c .answered3 .ensures) (out _ _ _ _ _ _ _ _ _ _ (c .before .before .loop .inv) (c .before .loop-test .left))
+returns-3 c = rw (c .answered .ensures) (out _ _ _ _ _ _ _ _ _ _ (c .before .before .loop .inv) (c .before .loop-test .left))
 
 pub choose-spec : {M : Type 1} → statement M
 choose-spec =
     tie.close
-    (tie.spec Inv-loop μ-loop (λ _ _. tt) add-looks (λ _ _. tt) loop-holds sub-looks (λ _ _. tt) enum-told (λ _ _. tt) returns
-    enum-known-top (λ _ _. tt) mul-x element-copy-out-x (λ _ _. tt) added-requires (λ _ _. tt) mul-z element-copy-out-z (λ _ _. tt)
-    enum-told-2 (λ _ _. tt) returns-2 enum-told-3 (λ _ _. tt) (λ _ _. tt) mul-x-2 element-copy-out-x-2 mul-y element-set-from-y (λ _ _. tt)
+    (tie.spec Inv-loop μ-loop (λ _ _. tt) add-looks (λ _ _. tt) loop-holds sub-looks (λ _ _. tt) enum-told returns enum-known-top (λ _ _. tt) mul-x element-copy-out-x (λ _ _. tt) added-requires (λ _ _. tt) mul-z element-copy-out-z (λ _ _. tt)
+    enum-told-2 returns-2 enum-told-3 (λ _ _. tt) (λ _ _. tt) mul-x-2 element-copy-out-x-2 mul-y element-set-from-y (λ _ _. tt)
     (λ _ _. tt) (λ _ _. tt) (λ _ _. tt) enum-told-4 loop-less loop-again enum-known-first (λ _ _. tt) loop-less-2 loop-again-2 (λ _ _. tt)
     returns-3)

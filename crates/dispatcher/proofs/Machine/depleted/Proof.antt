@@ -7,8 +7,10 @@ use Rattle.rules.specs.declared.Place.the-variants.{Spent}
 use Rattle.rules.specs.Timeslices.{charged, toBack}
 use Rattle.rules.specs.Choice.{park}
 use Rattle.rules.specs.Events.{depletes}
+use Rattle.neighbours.specs.Sides.{sides}
+use Rattle.dispatcher.proofs.Stored.{turns-linked}
 use Rattle.dispatcher.proofs.Answering.{chosen}
-use Rattle.dispatcher.proofs.TimesliceChanges.{movedTo, left-at, charges, left-places, released-shown, turned-exact}
+use Rattle.dispatcher.proofs.TimesliceChanges.{movedTo, left-at, charges, left-places, released-shown, turned-exact, turned-shown}
 use Rattle.dispatcher.proofs.ThreadChanges.{choosable}
 use Rattle.dispatcher.proofs.Machine.depleted.Statement.{statement}
 use Rattle.dispatcher.proofs.Machine.depleted.Tie as tie
@@ -32,22 +34,30 @@ sub-left c =
 
 choose-requires : tie.Need-choose-requires
 choose-requires c κs =
-    let start = c .before .before .before .before .before .before .before in
-    choosable _ (turned-exact (start .args .t1) _ _ _ (start .pre .0 .exact) (c .before .to-back .ensures))
+    let at-move-back = c .before .before .before in
+    let start = at-move-back .before .before .before .before .before .before .before .before .before in
+    let m = start .args .t1 in
+    let ok = start .pre .0 .exact in
+    let listed = start .pre .1 .1 .0 in
+    choosable _ (turned-exact m _ _ _ ok listed (at-move-back .move-back .ensures .1 (shown m .order) (turns-linked m ok) listed))
 
 returns : tie.Need-returns
-unfolding depletes park toBack
+unfolding depletes park
 returns c =
-    let at-to-back = c .before .before in
-    let at-index = at-to-back .before .before .before .before .before in
+    let at-move-back = c .before .before .before .before in
+    let at-index = at-move-back .before .before .before .before .before .before .before .before in
     let start = at-index .before in
     let a = start .args in
     let m = a .t1 in
     let at = at-index .index .ensures in
-    chosen (movedTo (m .threads) (c .before .release .result) (at-to-back .to-back .result) m) 0 _ _
-    (released-shown m (behind (a .t)) _ _ _ _ (charged (a .t) (a .units) (shown m .slices)) _ _ (toBack (a .t) (shown m .order)) refl
+    let ok = start .pre .0 .exact in
+    let listed = start .pre .1 .1 .0 in
+    let back = at-move-back .move-back .ensures .1 (shown m .order) (turns-linked m ok) listed in
+    let turned = sides (at-move-back .move-back .last .0) (at-move-back .move-back .last .1 .0) in
+    chosen (movedTo (m .threads) (c .before .release .result) turned m) 0 _ _
+    (released-shown m (behind (a .t)) _ _ _ _ (charged (a .t) (a .units) (shown m .slices)) _ turned (toBack (a .t) (shown m .order)) refl
     (charges (m .timeslices) _ (a .t) (a .units) Spent at) (left-places (m .timeslices) _ (a .t) _ Spent at)
-    (rw (start .pre .1 .1 .0) at (at-to-back .to-back .ensures .turns)) (c .before .release .ensures))
+    (turned-shown m (a .t) turned (m .timeslices) ok listed back) (c .before .release .ensures))
     (c .choose .ensures)
 
 pub depleted-spec : {M : Type 1} → statement M

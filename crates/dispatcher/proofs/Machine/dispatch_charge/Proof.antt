@@ -3,7 +3,7 @@ use Prim.Native.Nat.{_-_}
 use mathlib.Core.Path.{refl}
 use native.Mathlib.Omega.{arith}
 use borrow.Author.Tests.{lt-ltb, le-ltb, eq-eqb, ne-eqb}
-use lib.ListN.{getD, take}
+use lib.ListN.{getD}
 use Rattle.tables.specs.Timeslices.{freeTimeslice}
 use Rattle.dispatcher.specs.Shown.{shown}
 use Rattle.rules.specs.declared.Event.the-variants.{Charge}
@@ -134,8 +134,7 @@ returns-5 c =
       threads = m .threads;
       slices = slices i;
       places = places i;
-      order = take
-          (m .«live_timeslices») (m .order);
+      order = shown m .order;
       running = m .running;
     })
     (stored-with m ok _ refl refl (live-is m ok)))

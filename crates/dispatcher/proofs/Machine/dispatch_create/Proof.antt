@@ -40,7 +40,7 @@ returns-2 c =
 add-self : tie.Need-add-self
 add-self c =
     let start = c .before .before .before .before .before .before in
-    let full : length (start .args .t1 .threads) ≡ 128 = simp length-map at (start .good .0 .1 .1 .0 .1 .0 .1) in
+    let full : length (start .args .t1 .threads) ≡ 128 = simp length-map at (start .good .0 .1 .1 .1 .1 .1 .1 .1 .0 .1 .0 .1) in
     omega (arith, live-is _ (sound-stored _ (start .pre)), live-most (start .args .t1 .threads))
 
 returns-3 : tie.Need-returns-3
@@ -52,7 +52,7 @@ returns-3 c =
     let start = at-if1 .before in
     let a = start .args in
     let ok = sound-stored (a .t1) (start .pre) in
-    let full : length (a .t1 .threads) ≡ 128 = simp length-map at (start .good .0 .1 .1 .0 .1 .0 .1) in
+    let full : length (a .t1 .threads) ≡ 128 = simp length-map at (start .good .0 .1 .1 .1 .1 .1 .1 .1 .0 .1 .0 .1) in
     let free = sym (ap (λ (k : ℕ). threadAt (a .t1 .threads) k .live) (at-index .index .ensures)) ∙ at-if2 .if2 .left in
     let new = c .before .created .ensures in
     accept (Create (a .n) (a .role)) (a .t1) (start .pre) (rw (le-ltb _ _ (at-if1 .if1 .left), free) refl)

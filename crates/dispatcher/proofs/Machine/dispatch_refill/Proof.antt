@@ -1,10 +1,13 @@
 -- Each refusal is the first that fits; past them nothing is left of the timeslice, and it joins Queue with its whole quantum.
-use mathlib.Core.Path.{refl, sym, _∙_}
+use mathlib.Core.Path.{_≡_, refl}
+use mathlib.Core.Bool.{true, false}
+use native.Mathlib.Omega.{arith}
+use Rattle.rules.specs.Tests.{member}
 use borrow.Author.Tests.{lt-ltb, le-ltb, eq-eqb, ne-eqb, not-true, not-false}
 use Rattle.dispatcher.specs.Shown.{shown}
 use Rattle.rules.specs.declared.Event.the-variants.{Refill}
 use Rattle.rules.specs.Events.{refill}
-use Rattle.dispatcher.proofs.Stored.{sound-stored, stored-with, live-is}
+use Rattle.dispatcher.proofs.Stored.{sound-stored, stored-with, live-is, says-listed}
 use Rattle.dispatcher.proofs.Answering.{refuse, accept}
 use Rattle.dispatcher.proofs.TimesliceChanges.{left-at, refilledTo, refill-shown, joined-to}
 use Rattle.dispatcher.proofs.ThreadChanges.{choosable}
@@ -17,11 +20,22 @@ returns c = refuse _ _ (c .answered .ensures) (rw (lt-ltb _ _ (c .before .if1 .t
 
 returns-2 : tie.Need-returns-2
 returns-2 c =
-    let at-member = c .before .before in
-    refuse _ _ (c .answered2 .ensures) (rw (
-      le-ltb _ _ (at-member .before .before .if1 .left),
-      sym (at-member .member .ensures) ∙ not-true _ (c .before .if2 .taken),
-    ) refl)
+    let at-listed = c .before .before in
+    let at-if1 = at-listed .before .before .before in
+    let m = at-if1 .before .args .t1 in
+    let ok = sound-stored m (at-if1 .before .pre) in
+    let out = says-listed m ok _ _ false (omega (arith, at-if1 .if1 .left)) (at-listed .is-listed .ensures) (not-true _ (c .before .if2 .taken)) in
+    refuse _ _ (c .answered2 .ensures) (rw (le-ltb _ _ (at-if1 .if1 .left), out) refl)
+
+-- past the second refusal the timeslice is listed
+listed-here : (c : tie.Else2)
+    → let at-if1 = c .before .before .before .before in member (at-if1 .before .args .t) (shown (at-if1 .before .args .t1) .order) ≡ true
+listed-here c =
+    let at-listed = c .before in
+    let at-if1 = at-listed .before .before .before in
+    let m = at-if1 .before .args .t1 in
+    says-listed m (sound-stored m (at-if1 .before .pre)) _ _ true (omega (arith, at-if1 .if1 .left)) (at-listed .is-listed .ensures)
+    (not-false _ (c .if2 .left))
 
 mul-x : tie.Need-mul-x
 mul-x c = search needs
@@ -33,12 +47,11 @@ returns-3 : tie.Need-returns-3
 returns-3 c =
     let at-index = c .before .before .before .before in
     let at-if2 = at-index .before in
-    let at-member = at-if2 .before in
-    let at-if1 = at-member .before .before in
+    let at-if1 = at-if2 .before .before .before .before in
     let m = at-if1 .before .args .t1 in
     refuse _ _ (c .answered3 .ensures) (rw (
       le-ltb _ _ (at-if1 .if1 .left),
-      sym (at-member .member .ensures) ∙ not-false _ (at-if2 .if2 .left),
+      listed-here at-if2,
       left-at (m .timeslices) _ _ (at-index .index .ensures),
       ne-eqb _ _ (c .before .if3 .taken),
     ) refl)
@@ -51,7 +64,7 @@ element-set-from-y c = search needs
 
 overtaken-requires : tie.Need-overtaken-requires
 overtaken-requires c κs =
-    let start = c .before .before .before .before .before .before .before .before in
+    let start = c .before .before .before .before .before .before .before .before .before in
     let m = start .args .t1 in
     let ok = sound-stored m (start .pre) in
     choosable _ (stored-with m ok _ refl refl (live-is m ok))
@@ -61,8 +74,7 @@ unfolding refill
 returns-4 c =
     let at-index = c .before .before .before .before in
     let at-if2 = at-index .before in
-    let at-member = at-if2 .before in
-    let at-if1 = at-member .before .before in
+    let at-if1 = at-if2 .before .before .before .before in
     let start = at-if1 .before in
     let a = start .args in
     let m = a .t1 in
@@ -70,7 +82,7 @@ returns-4 c =
     accept (Refill (a .t)) m (start .pre)
     (rw (
       le-ltb _ _ (at-if1 .if1 .left),
-      sym (at-member .member .ensures) ∙ not-false _ (at-if2 .if2 .left),
+      listed-here at-if2,
       left-at (m .timeslices) _ _ at,
       eq-eqb _ _ (c .before .if3 .left),
     ) refl)

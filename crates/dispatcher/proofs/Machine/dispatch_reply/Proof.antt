@@ -33,7 +33,7 @@ returns c =
     let at-running = c .before .before .before .before in
     let start = at-running .before .before in
     let m = start .args .t1 in
-    let full : length (m .threads) ≡ 128 = simp length-map at (start .good .0 .1 .1 .0 .1 .0 .1) in
+    let full : length (m .threads) ≡ 128 = simp length-map at (start .good .0 .1 .1 .1 .1 .1 .1 .1 .0 .1 .0 .1) in
     let client = ap (λ (t : Thread). isServer (t .role))
     (past (m .threads) _ _ freeThread full (c .before .before .index .ensures) (c .before .if1 .taken)) in
     refuse _ _ (c .answered2 .ensures) (rw (at-running .running .given .1, client) refl)

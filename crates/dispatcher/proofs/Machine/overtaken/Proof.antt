@@ -15,12 +15,12 @@ enum-known-running c = search needs
 
 choose-requires-2 : tie.Need-choose-requires-2
 choose-requires-2 c κs =
-    let start = c .before .before .before .before .before .before .before in
+    let start = c .before .before .before .before .before in
     start .pre
 
 returns : tie.Need-returns
 returns c =
-    let at-running = c .before .before .before .before .before .before in
+    let at-running = c .before .before .before .before in
     let start = at-running .before .before in
     chose _ _ _ (over-running (start .args .self) _ _ _ _ _ _ (at-running .running .given .1) (c .before .before .stands-above .ensures)
     (c .before .if1 .taken)) (c .choose2 .ensures)
@@ -30,7 +30,7 @@ returns-2 c = chose _ _ _ (over-nothing (c .before .before .before .args .self) 
 
 returns-3 : tie.Need-returns-3
 returns-3 c =
-    let at-running = c .before .before .before .before .before .before in
+    let at-running = c .before .before .before .before in
     let start = at-running .before .before in
     stayed _ _ _ (c .answered .ensures) (over-running (start .args .self) _ _ _ _ _ _ (at-running .running .given .1)
     (c .before .before .stands-above .ensures) (c .before .if1 .left)) (start .pre .exact)

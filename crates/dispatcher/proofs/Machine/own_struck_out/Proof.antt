@@ -24,8 +24,8 @@ enum-known-found c = search needs
 struck-out-requires : tie.Need-struck-out-requires
 struck-out-requires c κs =
     let at-own = c .before .before .before in
-    let start = at-own .before .before .before in
-    let m = start .args .self in
+    let start = at-own .before .before .before .before in
+    let m = start .args .t1 in
     let is : ownOf (shown m .slices) (start .args .n) (shown m .order) ≡ some (c .before .found .given .0 .0) =
     sym (at-own .own .ensures) ∙ ap soughtOf (c .before .found .given .1) in
     let listed = own-listed (shown m .slices) (start .args .n) (shown m .order) _ is in (
@@ -36,8 +36,8 @@ struck-out-requires c κs =
 returns : tie.Need-returns
 returns c =
     let at-own = c .before .before in
-    let start = at-own .before .before .before in
-    let m = start .args .self in
+    let start = at-own .before .before .before .before in
+    let m = start .args .t1 in
     let is : none ≡ ownOf (shown m .slices) (start .args .n) (shown m .order) =
     ap soughtOf (sym (c .enum-told .given .1)) ∙ at-own .own .ensures in
     subst (λ (o : Option ℕ). Shows (strikeOut o (shown m)) m) is (record { state = refl; exact = sound-stored m (start .pre) })
@@ -46,8 +46,8 @@ returns-2 : tie.Need-returns-2
 returns-2 c =
     let at-found = c .before .before in
     let at-own = at-found .before .before in
-    let start = at-own .before .before .before in
-    let m = start .args .self in
+    let start = at-own .before .before .before .before in
+    let m = start .args .t1 in
     let is : some (at-found .found .given .0 .0) ≡ ownOf (shown m .slices) (start .args .n) (shown m .order) =
     ap soughtOf (sym (at-found .found .given .1)) ∙ at-own .own .ensures in
     subst (λ (o : Option ℕ). Shows (strikeOut o (shown m)) (c .struck-out .result)) is (c .struck-out .ensures)

@@ -42,7 +42,7 @@ settled-after-requires c κs =
     let at-walk = c .before .before .before in
     let start = at-walk .before .before in
     let m = start .args .self in
-    let full : length (m .threads) ≡ 128 = simp length-map at (start .good .0 .1 .1 .0 .1 .0 .1) in
+    let full : length (m .threads) ≡ 128 = simp length-map at (start .good .0 .1 .1 .1 .1 .1 .1 .1 .0 .1 .0 .1) in
     let struck = c .own-struck-out .ensures in
     let fewer : m .«live_threads» - 1 ≡ liveThreads (c .before .removed .result) =
     omega (arith, one-less at-walk, ap liveThreads (c .before .removed .ensures)) in

@@ -21,7 +21,7 @@ sub-t10 c = search needs
 
 returns : tie.Need-returns
 returns c =
-    let at-if1 = c .before .before .before .before in
+    let at-if1 = c .before .before .before .before .before in
     let at-service = at-if1 .before .before in
     let start = at-service .before .before in
     let m = start .args .self in

@@ -2,8 +2,7 @@
 use Prim.Native.Nat.{_-_}
 use native.Mathlib.Omega.{arith}
 use Rattle.rules.specs.Tests.{all}
-use Rattle.tables.proofs.Along.{Along, begin}
-use Rattle.soundness.proofs.Loops.{all-more, all-fails, all-passed}
+use Rattle.tables.proofs.Along.{Along, begin, all-more, all-fails, all-passed}
 use Rattle.plain_engine.specs.Shape.{turnTest}
 use Rattle.plain_engine.proofs.shape.turns_good.Statement.{statement}
 use Rattle.plain_engine.proofs.shape.turns_good.Tie as tie

@@ -1,4 +1,4 @@
--- Entry, thread and slot are asked in turn.
+-- Neighbours, thread and slot are asked in turn.
 use Rattle.soundness.proofs.each_number.number_good.Statement.{statement}
 use Rattle.soundness.proofs.each_number.number_good.Tie as tie
 
@@ -9,7 +9,7 @@ returns c =
       c .before .slot-good .ensures,
       thread .both .ensures,
       thread .before .thread-good .ensures,
-      thread .before .before .entry-free .ensures,
+      thread .before .before .neighbours-good .ensures,
     ) at (c .both2 .ensures)
 
 pub number-good-spec : {M : Type 1} → statement M

@@ -1,5 +1,7 @@
 -- Every number below the one reached has passed.
 use Prim.Native.Nat.{_-_}
+use Rattle.neighbours.specs.Sides.{sides}
+use Rattle.neighbours.specs.Reading.{turnsRead}
 use Rattle.soundness.specs.Parts.{numberTest}
 use Rattle.soundness.proofs.Loops.{Passed, none-yet, one-more, one-fails, passed-all}
 use native.Mathlib.Omega.{arith}
@@ -7,10 +9,11 @@ use Rattle.soundness.proofs.each_number.numbers_good.Statement.{stateme
 use Rattle.soundness.proofs.each_number.numbers_good.Tie as tie
 
 abbrev Inv-loop : tie.InvT-loop
-Inv-loop threads timeslices order live n₀ n = Passed (λ k. numberTest threads timeslices order live k) n
+Inv-loop threads timeslices before after live n₀ n = Passed
+    (λ k. numberTest threads timeslices (sides before after) (turnsRead after live) k) n
 
 abbrev μ-loop : tie.MeasureT-loop
-μ-loop threads timeslices order live n₀ n = 128 - n
+μ-loop threads timeslices before after live n₀ n = 128 - n
 
 loop-holds : tie.Need-loop-holds Inv-loop μ-loop
 loop-holds c = none-yet _

@@ -16,8 +16,8 @@ returns c =
     let slice = free .before .slice-free .ensures ∙ slice-test sliceFree table _ _ read in
     let place = queued .before .in-set .ensures ∙ place-test inQueue table _ _ read in
     both-test _ _ _ _ _ (c .both .ensures)
-    (either-test _ _ _ _ _ (free .either .ensures) (listed .member .ensures) slice)
-    (either-test _ _ _ _ _ (queued .either2 .ensures) (listed .member .ensures) place)
+    (either-test _ _ _ _ _ (free .either .ensures) (listed .lists .ensures) slice)
+    (either-test _ _ _ _ _ (queued .either2 .ensures) (listed .lists .ensures) place)
 
 pub slot-good-spec : {M : Type 1} → statement M
 slot-good-spec = tie.close (tie.spec (λ _ _. tt) (λ _ _. tt) (λ _ _. tt) (λ _ _. tt) (λ _ _. tt) (λ _ _. tt) (λ _ _. tt) returns)

@@ -1,4 +1,5 @@
 -- The topmost in Queue says whether something must run.
+use Rattle.neighbours.specs.Reading.{turnsRead}
 use Rattle.soundness.proofs.Clauses.{settled-none, settled-some}
 use borrow.Author.Needs.{needs}
 use Rattle.soundness.proofs.running.is_settled.Statement.{statement}
@@ -15,8 +16,8 @@ returns c =
     let told = c .before in
     let sought = told .before .before in
     let start = sought .before in
-    settled-none (start .args .live-threads) (start .args .threads) (start .args .timeslices) (start .args .order) (start .args .live)
-    (start .args .running) _
+    settled-none (start .args .live-threads) (start .args .threads) (start .args .timeslices)
+    (turnsRead (start .args .after .now) (start .args .live)) (start .args .running) _
     (sought .topmost .ensures) _
     (told .enum-told .given .1) (c .nothing-runs .ensures)
 
@@ -25,8 +26,8 @@ returns-2 c =
     let told = c .before .before in
     let sought = told .before .before in
     let start = sought .before in
-    settled-some (start .args .live-threads) (start .args .threads) (start .args .timeslices) (start .args .order) (start .args .live)
-    (start .args .running) _
+    settled-some (start .args .live-threads) (start .args .threads) (start .args .timeslices)
+    (turnsRead (start .args .after .now) (start .args .live)) (start .args .running) _
     (sought .topmost .ensures) _ _
     (told .top .given .1) (c .runs-on .ensures)
 

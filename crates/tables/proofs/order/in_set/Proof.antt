@@ -1,7 +1,7 @@
 -- Two places are the same where kind and number are.
 use borrow.Author.Tests.{eq-eqb, ne-eqb}
 use borrow.Author.Needs.{needs}
-use Rattle.tables.proofs.Searches.{same-place}
+use Rattle.tables.proofs.Places.{same-place}
 use Rattle.tables.proofs.order.in_set.Statement.{statement}
 use Rattle.tables.proofs.order.in_set.Tie as tie
 

@@ -1,0 +1,13 @@
+-- Only the parked timeslice's code changes.
+use borrow.Author.Tests.{eq-eqb, ne-eqb}
+use Rattle.timeslices.proofs.heights.parked_code.Statement.{statement}
+use Rattle.timeslices.proofs.heights.parked_code.Tie as tie
+
+returns : tie.Need-returns
+returns c = simp (eq-eqb _ _ (c .if1 .taken))
+
+returns-2 : tie.Need-returns-2
+returns-2 c = simp (ne-eqb _ _ (c .if1 .left))
+
+pub parked-code-spec : {M : Type 1} → statement M
+parked-code-spec = tie.close (tie.spec returns returns-2)
