@@ -4,8 +4,8 @@
 # The time of KEY_PROGRAM against oracle/straight.rs and oracle/key.rs, and of plain_key, which stands beside it, against KEY_PROGRAM:
 # same machine, same files, best of RUNS (default 15) runs that take turns. Times are of whole processes, start, reading and printing
 # included; nothing is subtracted. Not part of any timed test. Stops after 20 seconds for each of RUNS.
-# With BEFORE, an earlier key program, the time is against that one, on files in which no timeslice is depleted: BEFORE may be
-# from before request [2]. No file here has a remove or a rank: all are as they were before requests [3] and [4].
+# With BEFORE, an earlier key program, the time is against that one, on files in which no timeslice is depleted, so that BEFORE may be
+# from before request [2]; but for the last two, ranks and refills, which need a program from request [4] on.
 set -euo pipefail
 export LC_ALL=C
 [ $# -ge 1 ] || { echo "bench.sh KEY_PROGRAM [RUNS [BEFORE]]" >&2; exit 2; }
@@ -22,6 +22,10 @@ done
 files=()
 for kind in full small chain16 chain64 chain127; do
     kind+=${before:+-undepleted}
+    "$work/make" 1 1 "$work/in" "$kind"
+    files+=("$work/in/$kind-00000")
+done
+for kind in ranks refills; do
     "$work/make" 1 1 "$work/in" "$kind"
     files+=("$work/in/$kind-00000")
 done

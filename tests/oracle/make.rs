@@ -9,10 +9,12 @@
 //! - `small`: 6 threads, a file of 65,536 bytes;
 //! - `chain16`, `chain64`, `chain127` (any `chainN` up to 127): abort and choice on a chain of N
 //!   links, over and over, a file of 65,536 bytes;
+//! - `ranks`, `refills`: 128 clients, each with a timeslice, of which one after another goes to the back of the
+//!   turn order: it is ranked, or it is depleted and refilled; a file of 65,536 bytes;
 //! - `full-undepleted`, `small-undepleted`, `chainN-undepleted`: the same, but no charge reaches 0 and
 //!   nothing is refilled, for a program from before request [2].
 //!
-//! From `full` on no kind has a remove or a rank: those files are also for a program from before requests [3] and [4].
+//! From `full` on no kind but `ranks` has a remove or a rank: those files are also for a program from before requests [3] and [4].
 //!
 //! The machine of `key.rs` runs along, so that the next event can be chosen by what would happen.
 
@@ -806,6 +808,55 @@ fn chain_of(seed: u64, links: u8, depletes: bool) -> List {
     list
 }
 
+/// A full bridge of clients.
+fn clients(seed: u64) -> List {
+    let profile = Profile {
+        threads: 128,
+        servers: 0,
+        slices: 128,
+        priorities: (0..=255).collect(),
+        quantum: 5,
+        depletes: true,
+        wrong: 0,
+        upward: 0,
+        weights: [0; 9],
+    };
+    let mut list = List::new(seed, profile);
+    for t in 0..128u8 {
+        list.add(Create(t, CLIENT));
+    }
+    for t in 0..128u8 {
+        let p = list.random.pick(&list.profile.priorities).unwrap();
+        list.add(Give(t, t, p, list.profile.quantum as u16));
+    }
+    list
+}
+
+fn ranks(seed: u64) -> List {
+    let mut list = clients(seed);
+    list.fill(|list| {
+        let t = list.random.below(128) as u8;
+        let p = list.random.below(256) as u8;
+        list.add(Rank(t, p));
+    });
+    list
+}
+
+/// Up to eight timeslices are without time.
+fn refills(seed: u64) -> List {
+    let mut list = clients(seed);
+    list.fill(|list| {
+        let spent = list.spent();
+        if spent.len() < 8 {
+            list.add(Charge(5));
+        } else {
+            let t = list.random.pick(&spent).unwrap();
+            list.add(Refill(t));
+        }
+    });
+    list
+}
+
 fn measured(seed: u64, kind: &str) -> Option<List> {
     let (name, depletes) = match kind.strip_suffix("-undepleted") {
         Some(name) => (name, false),
@@ -814,6 +865,8 @@ fn measured(seed: u64, kind: &str) -> Option<List> {
     match name {
         "full" => Some(full(seed, depletes)),
         "small" => Some(small(seed, depletes)),
+        "ranks" => Some(ranks(seed)),
+        "refills" => Some(refills(seed)),
         _ => match name.strip_prefix("chain")?.parse().ok()? {
             links @ 1..=127 => Some(chain_of(seed, links, depletes)),
             _ => None,
