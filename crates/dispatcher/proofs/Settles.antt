@@ -142,7 +142,8 @@ module _ (n : ℕ) (m : Machine) (q : ℕ) (ts : List Timeslice) (top : topmostA
         subst (λ (o : Outcome). Settled o a) (ap₂ (λ b u. settleIf b (record { state = u; links = 0 })) over shows) s
 
 -- the one that was On the thread joined Queue
-pub alone-settled : (n : ℕ) (m : Machine) (q : ℕ) (now : Machine) → topmostAt (onThread n) (shown m) ≡ some q → Alone n m q now → (a : Answered)
+pub alone-settled : (n : ℕ) (m : Machine) (q : ℕ) (now : Machine) → topmostAt (onThread n) (shown m) ≡ some q → Alone n m q now
+    → (a : Answered)
     → Settled (settleIf (overtakes (shown now) (some q)) (before now 0)) a
     → Settled (settle (releases n (shown m))) a
 alone-settled n m q now top l a s =

@@ -175,8 +175,8 @@ module _ (m : Machine) (t : ℕ) (ok : stored m ≡ true) (listed : member t (sh
       cleared = set (m .timeslices) k freeTimeslice
 
       pub struck-shown :
-          Replaced cleared (placesAfter (behind t) (map sliceOf cleared) (turnsRead (rest .after) (m .«live_timeslices» - 1)) (map placeOf cleared))
-          free
+          Replaced cleared
+          (placesAfter (behind t) (map sliceOf cleared) (turnsRead (rest .after) (m .«live_timeslices» - 1)) (map placeOf cleared)) free
           → shown (fewer free) ≡ strikeOut (some t) (shown m)
       unfolding park struck
       struck-shown r =

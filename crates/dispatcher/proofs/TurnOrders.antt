@@ -54,7 +54,8 @@ turns-from : {m : Machine} {es : List Event} {rs : List Answered} → Runs m es 
 turns-from stops f h = tt
 turns-from (steps {m = m} {e = e} {es = es} {r = r} {rs = rs} a rest) f h =
     let z = agrees e (shown m) (sound-of (shown m) (sound-shown m h)) (f .0) in
-    let state : shown (r .machine) ≡ events.offer e (shown m) .state = a .state ∙ ap (λ (w : events.Answered). w .state) (as-offered e m h) in
+    let state : shown (r .machine) ≡ events.offer e (shown m) .state =
+    a .state ∙ ap (λ (w : events.Answered). w .state) (as-offered e m h) in
     let plain : forget (shown (r .machine)) ≡ plainOffer e (forget (shown m)) .plain = ap forget state ∙ z .plain in
     let sound = answered-sound e m r (f .0) h a in (
       sound-turns (r .machine) (plainOffer e (forget (shown m)) .plain .order) sound (ap (λ (p : Plain). p .order) plain),

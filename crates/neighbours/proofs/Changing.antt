@@ -17,8 +17,8 @@ use Rattle.rules.proofs.Order.Orders.{member-last, member-last-other, member-wi
 use Rattle.neighbours.specs.Sides.{Sides, sentinel, room, unlisted, neighbour, put}
 use Rattle.neighbours.specs.Joining.{appended, passedOver, cleared, struckOut, movedBack}
 use Rattle.neighbours.specs.Forming.{Runs, Linked, Changes}
-use Rattle.neighbours.proofs.Paths.{put-here, put-other, length-put, to-it, from-it, through, before-end, after-start, Stands, stands}
-use Rattle.neighbours.proofs.Paths.{not-again, once, ends-at, kept}
+use Rattle.neighbours.proofs.Paths.{put-here, put-other, length-put, to-it, from-it, through, before-end, after-start}
+use Rattle.neighbours.proofs.Paths.{Stands, stands, not-again, once, ends-at, kept}
 
 -- a member is no number that is not listed
 pub unlike : (x v : ℕ) (l : List ℕ) → member x l ≡ true → member v l ≡ false → x ≡ v → ⊥

@@ -11,7 +11,7 @@ use borrow.Author.Tests.{lt-ltb, ltb-true, eqb-true, eq-eqb, ne-eqb}
 use Rattle.rules.specs.Tests.{member, distinct}
 use Rattle.rules.specs.Timeslices.{without}
 use Rattle.rules.proofs.Basics.Views.{Two, yes-true, no-false, two, clash, is-false, Same, equal, different, same}
-use Rattle.rules.proofs.Basics.Members.{Listed, listed, not-listed, member-here, member-there, member-none, distinct-cons, each, member-tail}
+use Rattle.rules.proofs.Basics.Members.{not-listed, member-here, member-there, member-none, distinct-cons, each, member-tail}
 use Rattle.neighbours.specs.Sides.{Sides, room, neighbour, put}
 use Rattle.neighbours.specs.Reading.{turnsFrom}
 use Rattle.neighbours.specs.Forming.{Runs}
@@ -122,7 +122,8 @@ module _ (s : Sides) (b : ℕ) where
           let path : Runs s a (k .front ++ a ∷ k .back) b = subst (λ (l : List ℕ). Runs s a l b) (k .is) r in
           let ends : member b (k .front ++ a ∷ k .back) ≡ false = subst (λ (l : List ℕ). member b l ≡ false) (k .is) end in
           let behind : member b (k .back) ≡ false = behind-too (k .front) ends in
-          let as-long = ap length (one-path s a (k .front ++ a ∷ k .back) (k .back) b path (from-it s a (k .front) a (k .back) b path) ends behind) in
+          let rest = from-it s a (k .front) a (k .back) b path in
+          let as-long = ap length (one-path s a (k .front ++ a ∷ k .back) (k .back) b path rest ends behind) in
           absurd (omega (arith, as-long, length-append (k .front) (a ∷ k .back)))
         where
           behind-too : (l : List ℕ) → member b (l ++ a ∷ k .back) ≡ false → member b (k .back) ≡ false

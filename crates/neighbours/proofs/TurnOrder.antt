@@ -117,13 +117,13 @@ module _ (s : Sides) (order : List ℕ) (k : Linked s order) where
       followed : Stands t order → neighbour (s .after) t ≡ unlisted → ⊥
       followed p =
           let c = chained s order k in
-          let path = from-it s sentinel (p .front) t (p .back) sentinel (subst (λ (l : List ℕ). Runs s sentinel l sentinel) (p .is) (k .runs)) in
+          let whole = subst (λ (l : List ℕ). Runs s sentinel l sentinel) (p .is) (k .runs) in
+          let path = from-it s sentinel (p .front) t (p .back) sentinel whole in
+          let behind : (x : ℕ) → member x (p .back) ≡ true → member x order ≡ true =
+          λ x i. subst (λ (l : List ℕ). member x l ≡ true) (sym (p .is))
+          (in-back x (p .front) (t ∷ p .back) (member-there x t (p .back) i)) in
           after-start s (λ x. x ≡ unlisted → ⊥) t (p .back) sentinel path (λ e. absurd (omega arith))
-          (λ x i e. absurd (omega (
-            arith,
-            c .low x
-                (subst (λ (l : List ℕ). member x l ≡ true) (sym (p .is)) (in-back x (p .front) (t ∷ p .back) (member-there x t (p .back) i))),
-          )))
+          (λ x i e. absurd (omega (arith, c .low x (behind x i))))
 
       by : Two (member t order) → isListed (s .after) t ≡ member t order
       by (yes-true e) = rw (e, ne-eqb (neighbour (s .after) t) unlisted (followed (stands t order e))) refl

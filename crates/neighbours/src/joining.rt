@@ -24,8 +24,8 @@ pub(crate) fn join<'a>(before: &'a mut [u8; 129], after: &'a mut [u8; 129], a: u
 pub fn append<'a>(before: &'a mut [u8; 129], after: &'a mut [u8; 129], t: u8)
     ensures { λ _. ⌜ sides (now (before .exit)) (now (after .exit))
         ≡ appended t (sides (now (before .entry)) (now (after .entry))) ⌝ }
-    ensures turned { λ _. ⌜ Changes (λ order. ltb t limit && not (member t order)) (last t) (sides (now (before .entry)) (now (after .entry)))
-        (sides (now (before .exit)) (now (after .exit))) ⌝ }
+    ensures turned { λ _. ⌜ Changes (λ order. ltb t limit && not (member t order)) (last t)
+        (sides (now (before .entry)) (now (after .entry))) (sides (now (before .exit)) (now (after .exit))) ⌝ }
 {
     let back = before[128];
     join(before, after, back, t);

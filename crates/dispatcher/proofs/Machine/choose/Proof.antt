@@ -236,7 +236,8 @@ returns-3 c = rw (c .answered .ensures) (out _ _ _ _ _ _ _ _ _ _ (c .before .bef
 pub choose-spec : {M : Type 1} → statement M
 choose-spec =
     tie.close
-    (tie.spec Inv-loop μ-loop (λ _ _. tt) add-looks (λ _ _. tt) loop-holds sub-looks (λ _ _. tt) enum-told returns enum-known-top (λ _ _. tt) mul-x element-copy-out-x (λ _ _. tt) added-requires (λ _ _. tt) mul-z element-copy-out-z (λ _ _. tt)
+    (tie.spec Inv-loop μ-loop (λ _ _. tt) add-looks (λ _ _. tt) loop-holds sub-looks (λ _ _. tt) enum-told returns
+    enum-known-top (λ _ _. tt) mul-x element-copy-out-x (λ _ _. tt) added-requires (λ _ _. tt) mul-z element-copy-out-z (λ _ _. tt)
     enum-told-2 returns-2 enum-told-3 (λ _ _. tt) (λ _ _. tt) mul-x-2 element-copy-out-x-2 mul-y element-set-from-y (λ _ _. tt)
     (λ _ _. tt) (λ _ _. tt) (λ _ _. tt) enum-told-4 loop-less loop-again enum-known-first (λ _ _. tt) loop-less-2 loop-again-2 (λ _ _. tt)
     returns-3)

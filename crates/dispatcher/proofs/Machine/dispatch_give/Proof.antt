@@ -26,7 +26,8 @@ use Rattle.dispatcher.proofs.Machine.dispatch_give.Statement.{statement
 use Rattle.dispatcher.proofs.Machine.dispatch_give.Tie as tie
 
 -- past the third refusal the turn order lacks the timeslice
-unlisted-here : (c : tie.Else3) → let start = c .before .before .before .before .before .before in member (start .args .t) (shown (start .args .t1) .order) ≡ false
+unlisted-here : (c : tie.Else3)
+    → let start = c .before .before .before .before .before .before in member (start .args .t) (shown (start .args .t1) .order) ≡ false
 unlisted-here c =
     let at-listed = c .before in
     let at-if1 = at-listed .before .before .before .before in
@@ -120,14 +121,18 @@ element-set-from-new : tie.Need-element-set-from-new
 element-set-from-new c = search needs
 
 add-self : tie.Need-add-self
-add-self c = omega (arith, roomy (c .before .before .before .before .before .before .before .before .before .before .before .before .before .before .before .before))
+add-self c =
+    let at-if4 = c .before .before .before .before .before .before .before .before .before .before .before .before in
+    omega (arith, roomy (at-if4 .before .before .before .before))
 
 -- the neighbours of the turn order with the timeslice last
 appended-here : (c : tie.After-append)
-    → let start = c .before .before .before .before .before .before .before .before .before .before .before .before .before .before .before .before .before .before .before .before .before .before in
+    → let at-if4 = c .before .before .before .before .before .before .before .before .before .before .before .before in
+    let start = at-if4 .before .before .before .before .before .before .before .before .before .before in
     Linked (sides (c .append .last .0) (c .append .last .1 .0)) (last (start .args .t) (shown (start .args .t1) .order))
 appended-here c =
-    let at-if3 = c .before .before .before .before .before .before .before .before .before .before .before .before .before .before .before .before in
+    let at-if4 = c .before .before .before .before .before .before .before .before .before .before .before .before in
+    let at-if3 = at-if4 .before .before .before .before in
     let at-if1 = at-if3 .before .before .before .before .before in
     let start = at-if1 .before in
     let m = start .args .t1 in
@@ -138,10 +143,12 @@ appended-here c =
 
 overtaken-requires : tie.Need-overtaken-requires
 overtaken-requires c κs =
-    let at-if3 = c .before .before .before .before .before .before .before .before .before .before .before .before .before .before .before .before in
+    let at-index2 = c .before .before .before .before .before in
+    let at-if4 = at-index2 .before .before .before .before .before .before .before in
+    let at-if3 = at-if4 .before .before .before .before in
     let start = at-if3 .before .before .before .before .before .before in
-    choosable _ (gift-exact (start .args .t1) _ _ _ _ _ (c .before .before .before .before .before .index2 .ensures) _ (roomy at-if3) (sound-stored _ (start .pre))
-    (appended-here c))
+    let ok = sound-stored _ (start .pre) in
+    choosable _ (gift-exact (start .args .t1) _ _ _ _ _ (at-index2 .index2 .ensures) _ (roomy at-if3) ok (appended-here c))
 
 returns-7 : tie.Need-returns-7
 unfolding give
@@ -175,7 +182,8 @@ returns-7 c =
     refl)
     (give (a .t) (a .n) (a .priority) (a .quantum) (shown m)) refl _
     (joined-to (a .t) (gift m _ (a .t) (a .n) (a .priority) (a .quantum) (at-index2 .index2 .ensures) longer (roomy at-if3)) _ _
-    (gift-shown m _ (a .t) (a .n) (a .priority) (a .quantum) (at-index2 .index2 .ensures) longer (roomy at-if3) ok k) (c .overtaken .ensures))
+    (gift-shown m _ (a .t) (a .n) (a .priority) (a .quantum) (at-index2 .index2 .ensures) longer (roomy at-if3) ok k)
+    (c .overtaken .ensures))
 
 pub dispatch-give-spec : {M : Type 1} → statement M
 dispatch-give-spec =

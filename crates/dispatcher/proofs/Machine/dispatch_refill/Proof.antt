@@ -24,7 +24,8 @@ returns-2 c =
     let at-if1 = at-listed .before .before .before in
     let m = at-if1 .before .args .t1 in
     let ok = sound-stored m (at-if1 .before .pre) in
-    let out = says-listed m ok _ _ false (omega (arith, at-if1 .if1 .left)) (at-listed .is-listed .ensures) (not-true _ (c .before .if2 .taken)) in
+    let out = says-listed m ok _ _ false (omega (arith, at-if1 .if1 .left)) (at-listed .is-listed .ensures)
+    (not-true _ (c .before .if2 .taken)) in
     refuse _ _ (c .answered2 .ensures) (rw (le-ltb _ _ (at-if1 .if1 .left), out) refl)
 
 -- past the second refusal the timeslice is listed

@@ -27,7 +27,8 @@ returns c =
     let m = a .t1 in
     let chain = a .chain in
     let shows = released-shown m stalled _ _ (m .timeslices) _ _ _ (sidesOf m) _ refl refl refl refl (c .before .release .ensures) in
-    let how = ap (λ (l : Bool). releaseWalked l (a .blocked) (chain .end) (shown m)) (sym (c .before .before .before .before .before .if1 .taken)) in
+    let at-if1 = c .before .before .before .before .before in
+    let how = ap (λ (l : Bool). releaseWalked l (a .blocked) (chain .end) (shown m)) (sym (at-if1 .if1 .taken)) in
     after-walk chain (a .blocked) _ (movedTo (m .threads) (c .before .release .result) (sidesOf m) m) (shown m) _ (at-wide .wide .ensures)
     (shows ∙ how) (c .choose .ensures)
 
@@ -50,8 +51,9 @@ returns-2 c =
     let chain = a .chain in
     let shows =
     released-shown m (onThread (chain .end)) _ _ (m .timeslices) _ _ _ (sidesOf m) _ refl refl refl refl (c .before .release2 .ensures) in
+    let at-if2 = c .before .before .before .before .before in
     let how =
-    ap₂ (λ (l b : Bool). releaseWalked l b (chain .end) (shown m)) (sym (at-if1 .if1 .left)) (sym (c .before .before .before .before .before .if2 .taken)) in
+    ap₂ (λ (l b : Bool). releaseWalked l b (chain .end) (shown m)) (sym (at-if1 .if1 .left)) (sym (at-if2 .if2 .taken)) in
     after-walk chain (a .blocked) _ (movedTo (m .threads) (c .before .release2 .result) (sidesOf m) m) (shown m) _ (at-wide .wide .ensures)
     (shows ∙ how) (c .choose2 .ensures)
 

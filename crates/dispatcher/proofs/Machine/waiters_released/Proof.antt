@@ -36,7 +36,9 @@ enum-known-waiters-2 c = search needs
 
 -- the one that was On the thread is in Queue
 alone : (c : tie.Joined1)
-    → let start = c .before .before .before .before .before .before .before .before .before in Alone (start .args .n) (start .args .t1) (c .before .before .before .waiters .given .0 .0) (c .if1 .self)
+    → let told = c .before .before .before in
+    let start = told .before .before .before .before .before .before in
+    Alone (start .args .n) (start .args .t1) (told .waiters .given .0 .0) (c .if1 .self)
 alone c =
     let told = c .before .before .before in
     let found = told .before .before in
@@ -86,7 +88,8 @@ returns-3 : tie.Need-returns-3
 returns-3 c =
     let found = c .before .before .before .before .before .before .before in
     let start = found .before .before .before .before in
-    let top = sym (says-top _ _ _ (found .members-of .ensures) (Several _) (c .before .before .before .before .before .waiters2 .given .1)) in
+    let told = c .before .before .before .before .before in
+    let top = sym (says-top _ _ _ (found .members-of .ensures) (Several _) (told .waiters2 .given .1)) in
     first-released _ (start .args .t1) _ _ top (c .before .released .ensures) _ (c .overtaken2 .ensures)
 
 pub waiters-released-spec : {M : Type 1} → statement M

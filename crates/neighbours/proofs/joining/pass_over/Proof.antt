@@ -6,7 +6,9 @@ use Rattle.neighbours.proofs.joining.pass_over.Tie as tie
 
 returns : tie.Need-returns
 unfolding passedOver
-returns c = rw (← c .before .before .before .before .before .neighbour .ensures, ← c .before .before .before .neighbour2 .ensures) (c .join .ensures)
+returns c =
+    let following = c .before .before .before in
+    rw (← following .before .before .neighbour .ensures, ← following .neighbour2 .ensures) (c .join .ensures)
 
 pub pass-over-spec : {M : Type 1} → statement M
 pass-over-spec = tie.close (tie.spec (λ _ _. tt) (λ _ _. tt) (λ _ _. tt) returns)

@@ -9,8 +9,8 @@ use Rattle.neighbours.proofs.joining.strike_out.Tie as tie
 returns : tie.Need-returns
 unfolding struckOut
 returns c =
-    strikes _ _ _
-    (ap₂ sides (c .before .before .put .ensures) (c .put2 .ensures) ∙ ap (cleared _) (c .before .before .before .before .pass-over .ensures))
+    let first = c .before .before in
+    strikes _ _ _ (ap₂ sides (first .put .ensures) (c .put2 .ensures) ∙ ap (cleared _) (first .before .before .pass-over .ensures))
 
 pub strike-out-spec : {M : Type 1} → statement M
 strike-out-spec = tie.close (tie.spec (λ _ _. tt) (λ _ _. tt) (λ _ _. tt) returns)

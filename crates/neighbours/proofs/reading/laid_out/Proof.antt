@@ -35,7 +35,8 @@ loop-again c =
     let after = tested .before .before .before .args .after .now in
     let this = read-this _ _ _ _ _ _ (inv .0) (tested .loop-test .taken) (c .neighbour .ensures) in (
       read-one _ _ _ _ _ _ (inv .0) (tested .loop-test .taken) (c .neighbour .ensures),
-      lay-one _ _ _ _ (inv .1) (omega (arith, inv .0 .last, length-turns (entriesOf live) after sentinel)) (omega (arith, inv .0 .last)) this,
+      lay-one _ _ _ _ (inv .1) (omega (arith, inv .0 .last, length-turns (entriesOf live) after sentinel))
+          (omega (arith, inv .0 .last)) this,
     )
 
 returns : tie.Need-returns Inv-loop μ-loop

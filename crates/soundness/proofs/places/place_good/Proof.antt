@@ -27,7 +27,8 @@ returns : tie.Need-returns
 returns c =
     let read = c .before .before in
     let start = read .before in
-    place-is (start .args .threads) (start .args .timeslices) (turnsRead (start .args .after .now) (start .args .live)) (start .args .live-threads) _ _ Queue
+    let turns = turnsRead (start .args .after .now) (start .args .live) in
+    place-is (start .args .threads) (start .args .timeslices) turns (start .args .live-threads) _ _ Queue
     (read .timeslice-at .ensures) (c .enum-told .given .1)
 
 returns-2 : tie.Need-returns-2
@@ -35,8 +36,9 @@ returns-2 c =
     let told = c .before .before in
     let read = told .before .before in
     let start = read .before in
+    let turns = turnsRead (start .args .after .now) (start .args .live) in
     c .behind-good .ensures
-    ∙ place-is (start .args .threads) (start .args .timeslices) (turnsRead (start .args .after .now) (start .args .live)) (start .args .live-threads) _ _
+    ∙ place-is (start .args .threads) (start .args .timeslices) turns (start .args .live-threads) _ _
     (Behind _) (read .timeslice-at .ensures) (told .place .given .1)
 
 returns-3 : tie.Need-returns-3
@@ -45,10 +47,11 @@ returns-3 c =
     let told = walked .before .before in
     let read = told .before .before in
     let start = read .before in
+    let turns = turnsRead (start .args .after .now) (start .args .live) in
     let chain = chain-is _ (start .args .threads) (start .args .timeslices) _ _ _ (read .timeslice-at .ensures) (walked .walk .ensures) in
     let said = c .before .verdict-of in
     verdict-test (start .args .threads) (waitsAt _) _ _ (said .result) _ (c .waits-at .ensures) (said .ensures) chain
-    ∙ place-is (start .args .threads) (start .args .timeslices) (turnsRead (start .args .after .now) (start .args .live)) _ _ _ (On _)
+    ∙ place-is (start .args .threads) (start .args .timeslices) turns _ _ _ (On _)
     (read .timeslice-at .ensures) (told .place2 .given .1)
 
 returns-4 : tie.Need-returns-4
@@ -57,17 +60,19 @@ returns-4 c =
     let told = walked .before in
     let read = told .before .before in
     let start = read .before in
+    let turns = turnsRead (start .args .after .now) (start .args .live) in
     let chain = chain-is _ (start .args .threads) (start .args .timeslices) _ _ _ (read .timeslice-at .ensures) (walked .walk2 .ensures) in
     let said = c .before .verdict-of2 in
     verdict-test (start .args .threads) (λ d v. isStalls v) _ _ (said .result) _ (c .is-stalls .ensures) (said .ensures) chain
-    ∙ place-is (start .args .threads) (start .args .timeslices) (turnsRead (start .args .after .now) (start .args .live)) _ _ _ Stalled
+    ∙ place-is (start .args .threads) (start .args .timeslices) turns _ _ _ Stalled
     (read .timeslice-at .ensures) (told .enum-told2 .given .1)
 
 returns-5 : tie.Need-returns-5
 returns-5 c =
     let read = c .before .before in
     let start = read .before in
-    place-is (start .args .threads) (start .args .timeslices) (turnsRead (start .args .after .now) (start .args .live)) (start .args .live-threads) _ _ Spent
+    let turns = turnsRead (start .args .after .now) (start .args .live) in
+    place-is (start .args .threads) (start .args .timeslices) turns (start .args .live-threads) _ _ Spent
     (read .timeslice-at .ensures) (c .enum-told3 .given .1)
 
 pub place-good-spec : {M : Type 1} → statement M
