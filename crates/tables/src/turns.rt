@@ -1,4 +1,4 @@
-// Document 01, "Events", and document 02, [3]: what they do to the turn order.
+// Document 01, "Events", and document 02, [3]: what they do to a turn order that is an array, as the plain engine has it.
 ghost use Prim.Native.Nat.{_<_};
 ghost use Rattle.tables.specs.Turning.{entriesOf, Position, Shifted, TakenOut, Turned, StruckOut};
 use crate::numbers::entries;

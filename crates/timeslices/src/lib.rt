@@ -4,3 +4,4 @@ pub mod heights;
 pub mod rank;
 pub mod release;
 pub mod search;
+pub mod slots;

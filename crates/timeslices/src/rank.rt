@@ -1,26 +1,15 @@
 // Document 02, [4]: what a rank does to the timeslices.
 ghost use mathlib.Core.Path.{_≡_};
 ghost use mathlib.Core.List.{map};
-ghost use lib.ListN.{set};
 ghost use Rattle.rules.specs.State.{placeAt};
 ghost use Rattle.tables.specs.Timeslices.{sliceOf, placeOf, setPriority};
 ghost use Rattle.neighbours.specs.Reading.{turnsRead};
 ghost use Rattle.timeslices.specs.Releasing.{detachedPlaces, Replaced};
 use crate::release::release;
+use crate::slots::with_record;
 use rules::Place;
 use rules::Timeslice;
 use tables::lookup::timeslice_at;
-use tables::numbers::index;
-
-pub fn with_record(mut timeslices: [Timeslice; 128], t: u8, x: Timeslice) -> [Timeslice; 128]
-    ensures { λ r. ⌜ r ≡ set timeslices t x ⌝ }
-{
-    let k = index(t);
-    if k < 128 {
-        timeslices[k] = x;
-    }
-    timeslices
-}
 
 pub fn with_priority(mut timeslices: [Timeslice; 128], t: u8, priority: u8) -> [Timeslice; 128]
     ensures { λ r. ⌜ r ≡ setPriority t priority timeslices ⌝ }

@@ -3,8 +3,8 @@ use mathlib.Core.Path.{sym}
 use native.Mathlib.Omega.{arith}
 use lib.Seq.{set-out}
 use borrow.Author.Needs.{needs}
-use Rattle.timeslices.proofs.rank.with_record.Statement.{statement}
-use Rattle.timeslices.proofs.rank.with_record.Tie as tie
+use Rattle.timeslices.proofs.slots.with_record.Statement.{statement}
+use Rattle.timeslices.proofs.slots.with_record.Tie as tie
 
 returns : tie.Need-returns
 returns c = simp (c .before .index .ensures)
