@@ -1,6 +1,6 @@
 -- What `stored` says of a machine: a true L, and neighbours that form a list of T timeslices.
 use Prim.Native.Nat.{ℕ, _≤_, _<_}
-use mathlib.Core.Path.{_≡_, refl, sym, _∙_, ap, ap₂, subst}
+use mathlib.Core.Path.{_≡_, sym, _∙_, ap, ap₂, subst}
 use mathlib.Core.List.{List}
 use mathlib.Core.Bool.{Bool, true}
 use lib.ListN.{length, take}
@@ -10,7 +10,6 @@ use Rattle.rules.specs.Tests.{member}
 use Rattle.rules.specs.State.{limit, liveThreads}
 use Rattle.rules.specs.Sound.{sound}
 use Rattle.rules.proofs.Basics.Views.{and-true-left, and-true-right, and-true-both}
-use Rattle.neighbours.specs.Sides.{Sides}
 use Rattle.neighbours.specs.Reading.{turnsRead, isListed}
 use Rattle.neighbours.specs.Forming.{formsList, Linked}
 use Rattle.neighbours.proofs.Stepping.{take-laid, length-laid}

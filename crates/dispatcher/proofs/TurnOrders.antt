@@ -1,7 +1,7 @@
 -- Document 02, [8]: "from each sound machine, the list read from the neighbours is document 01's turn order after every event". The plain
 -- machine keeps the turn order as a list and knows no neighbours: an event leaves it the list that the code's neighbours form.
 use Prim.Native.Nat.{ℕ}
-use mathlib.Core.Path.{_≡_, refl, sym, ap, subst, _∙_}
+use mathlib.Core.Path.{_≡_, refl, ap, subst, _∙_}
 use mathlib.Core.List.{List, [], _∷_}
 use mathlib.Core.Bool.{true, false}
 use lib.ListN.{length}

@@ -1,7 +1,7 @@
 -- Each change of the neighbours changes the turn order as document 01 says: only the paths next to the entries that are written change.
-use Prim.Native.Nat.{ℕ, _≤_, _<_}
+use Prim.Native.Nat.{ℕ, _<_}
 use mathlib.Core.Path.{_≡_, refl, sym, _∙_, ap, subst}
-use mathlib.Core.List.{List, [], _∷_, _++_}
+use mathlib.Core.List.{List, [], _∷_, _++_, append-nil}
 use mathlib.Core.Bool.{Bool, true, false, not, _&&_}
 use native.Mathlib.Omega.{arith}
 use lib.ListN.{length}
@@ -10,13 +10,15 @@ use borrow.Author.Tests.{ltb-true, lt-ltb}
 use Rattle.rules.specs.Tests.{member, distinct, all}
 use Rattle.rules.specs.State.{limit}
 use Rattle.rules.specs.Timeslices.{last, without, toBack}
-use Rattle.rules.proofs.Basics.Views.{clash, is-false, and-true-left, and-true-right, Same, equal, different, same}
-use Rattle.rules.proofs.Basics.Members.{Listed, listed, not-listed, member-here, member-there, member-none, distinct-head, distinct-tail}
+use Rattle.rules.proofs.Basics.Views.{clash, is-false, and-true-left, and-true-right, or-true-left, or-true-right}
+use Rattle.rules.proofs.Basics.Views.{Same, equal, different, same}
+use Rattle.rules.proofs.Basics.Members.{not-listed, member-here, member-there, member-none, distinct-head, distinct-tail}
 use Rattle.rules.proofs.Basics.Members.{each, all-at, all-of}
-use Rattle.rules.proofs.Order.Orders.{member-last, member-last-other, member-without, member-without-other, member-back}
-use Rattle.neighbours.specs.Sides.{Sides, sentinel, room, unlisted, neighbour, put}
+use Rattle.rules.proofs.Basics.Filters.{member-append}
+use Rattle.rules.proofs.Order.Orders.{member-last, member-last-other, member-without, member-without-other}
+use Rattle.neighbours.specs.Sides.{Sides, sentinel, room, unlisted, neighbour}
 use Rattle.neighbours.specs.Joining.{appended, passedOver, cleared, struckOut, movedBack}
-use Rattle.neighbours.specs.Forming.{Runs, Linked, Changes}
+use Rattle.neighbours.specs.Forming.{Leads, Linked, Changes}
 use Rattle.neighbours.proofs.Paths.{put-here, put-other, length-put, to-it, from-it, through, before-end, after-start}
 use Rattle.neighbours.proofs.Paths.{Stands, stands, not-again, once, ends-at, kept}
 
@@ -25,13 +27,10 @@ pub unlike : (x v : ℕ) (l : List ℕ) → member x l ≡ true → member v l �
 unlike x v l h out e = clash (member v l) (subst (λ (y : ℕ). member y l ≡ true) e h) out
 
 in-front : (x : ℕ) (xs ys : List ℕ) → member x xs ≡ true → member x (xs ++ ys) ≡ true
-in-front x [] ys h = clash (member x []) h (not-listed x)
-in-front x (y ∷ xs) ys h = each (λ z. member z (y ∷ (xs ++ ys)) ≡ true) x y xs (member-here y y (xs ++ ys) refl)
-    (λ h. member-there x y (xs ++ ys) (in-front x xs ys h)) h
+in-front x xs ys h = member-append x xs ys ∙ or-true-left (member x xs) (member x ys) h
 
 pub in-back : (x : ℕ) (xs ys : List ℕ) → member x ys ≡ true → member x (xs ++ ys) ≡ true
-in-back x [] ys h = h
-in-back x (y ∷ xs) ys h = member-there x y (xs ++ ys) (in-back x xs ys h)
+in-back x xs ys h = member-append x xs ys ∙ or-true-right (member x xs) (member x ys) h
 
 -- in a list without doubles the front has nothing of the back
 parted : (xs ys : List ℕ) → distinct (xs ++ ys) ≡ true → (x : ℕ) → member x xs ≡ true → member x ys ≡ false
@@ -50,7 +49,7 @@ own-or-listed P order own on x h = each P x sentinel order own (on x) h
 pub record Chained (s : Sides) (order : List ℕ) : Type 0 where
   pub befores : length (s .before) ≡ room
   pub afters : length (s .after) ≡ room
-  pub runs : Runs s sentinel order sentinel
+  pub path : Leads s sentinel order sentinel
   pub low : (t : ℕ) → member t order ≡ true → t < limit
 
 pub chained : (s : Sides) (order : List ℕ) → Linked s order → Chained s order
@@ -58,7 +57,7 @@ chained s order k =
     record {
       befores = k .befores;
       afters = k .afters;
-      runs = k .runs;
+      path = k .path;
       low = λ t h. ltb-true t limit (all-at (λ t. ltb t limit) order (k .low) t h);
     }
 
@@ -67,18 +66,18 @@ module _ (s : Sides) (order : List ℕ) (k : Chained s order) where
   own-not-listed = is-false (member sentinel order) (λ h. absurd (omega (arith, k .low sentinel h)))
 
   pub listed-once : distinct order ≡ true
-  listed-once = once s sentinel sentinel order (k .runs) own-not-listed
+  listed-once = once s sentinel sentinel order (k .path) own-not-listed
 
   all-low : all (λ t. ltb t limit) order ≡ true
   all-low = all-of (λ t. ltb t limit) order (λ t h. lt-ltb t limit (k .low t h))
 
   -- the last is within the sides, and none that is not listed
   last-low : neighbour (s .before) sentinel < room
-  last-low = before-end s (λ x. x < room) sentinel order sentinel (k .runs) (omega arith) (λ x h. omega (arith, k .low x h))
+  last-low = before-end s (λ x. x < room) sentinel order sentinel (k .path) (omega arith) (λ x h. omega (arith, k .low x h))
 
   last-other : (v : ℕ) → v < limit → member v order ≡ false → v ≡ neighbour (s .before) sentinel → ⊥
   last-other v small out =
-      before-end s (λ x. v ≡ x → ⊥) sentinel order sentinel (k .runs) (λ e. absurd (omega arith))
+      before-end s (λ x. v ≡ x → ⊥) sentinel order sentinel (k .path) (λ e. absurd (omega arith))
       (λ x h e. unlike x v order h out (sym e))
 
   -- last in turn order
@@ -122,8 +121,8 @@ module _ (s : Sides) (order : List ℕ) (k : Chained s order) where
         record {
           befores = sizes .0;
           afters = sizes .1;
-          runs = through (appended t s) sentinel order t [] sentinel
-              (ends-at s (appended t s) sentinel order sentinel t (k .runs) own-not-listed after-last before-it
+          path = through (appended t s) sentinel order t [] sentinel
+              (ends-at s (appended t s) sentinel order sentinel t (k .path) own-not-listed after-last before-it
               (λ x h other. after-others x other
               (own-or-listed (λ y. y ≡ t → ⊥) order (λ e. absurd (omega arith)) (λ y h. unlike y t order h out) x h))
               (λ x h. before-others x (λ e. absurd (omega (arith, k .low x h))) (unlike x t order h out)))
@@ -154,13 +153,13 @@ module _ (s : Sides) (order : List ℕ) (k : Chained s order) where
     abbrev following : ℕ
     following = neighbour (s .after) t
 
-    whole : Runs s sentinel (place .front ++ t ∷ place .back) sentinel
-    whole = subst (λ (l : List ℕ). Runs s sentinel l sentinel) (place .is) (k .runs)
+    whole : Leads s sentinel (place .front ++ t ∷ place .back) sentinel
+    whole = subst (λ (l : List ℕ). Leads s sentinel l sentinel) (place .is) (k .path)
 
-    left : Runs s sentinel (place .front) t
+    left : Leads s sentinel (place .front) t
     left = to-it s sentinel (place .front) t (place .back) sentinel whole
 
-    right : Runs s t (place .back) sentinel
+    right : Leads s t (place .back) sentinel
     right = from-it s sentinel (place .front) t (place .back) sentinel whole
 
     fronts : (x : ℕ) → member x (place .front) ≡ true → member x order ≡ true
@@ -207,7 +206,7 @@ module _ (s : Sides) (order : List ℕ) (k : Chained s order) where
     pass-sizes = (length-put (s .before) following previous ∙ k .befores, length-put (s .after) previous following ∙ k .afters)
 
     -- up to the timeslice, to the one that follows it
-    up-to : (u : ℕ) → following ≡ u → Runs (passedOver t s) sentinel (place .front) u
+    up-to : (u : ℕ) → following ≡ u → Leads (passedOver t s) sentinel (place .front) u
     up-to u e =
         ends-at s (passedOver t s) sentinel (place .front) t u left (place .first) (after-previous ∙ e)
         (ap (neighbour (passedOver t s .before)) (sym e) ∙ before-following)
@@ -215,15 +214,11 @@ module _ (s : Sides) (order : List ℕ) (k : Chained s order) where
         (λ x i. pass-before x (is-following (λ y. x ≡ y → ⊥) (λ e. absurd (omega (arith, k .low x (fronts x i))))
         (λ y j e. unlike y x (place .back) j (member-none x t (place .back) (apart x i)) (sym e))))
 
-    closes : (ys : List ℕ) → place .back ≡ ys → Runs (passedOver t s) sentinel (place .front ++ ys) sentinel
-    closes [] e = subst (λ (l : List ℕ). Runs (passedOver t s) sentinel l sentinel) (no-more (place .front))
-        (up-to sentinel (subst (λ (l : List ℕ). Runs s t l sentinel) e right .0))
-      where
-        no-more : (l : List ℕ) → l ≡ l ++ []
-        no-more [] = refl
-        no-more (x ∷ l) = ap (λ (m : List ℕ). x ∷ m) (no-more l)
+    closes : (ys : List ℕ) → place .back ≡ ys → Leads (passedOver t s) sentinel (place .front ++ ys) sentinel
+    closes [] e = subst (λ (l : List ℕ). Leads (passedOver t s) sentinel l sentinel) (sym (append-nil (place .front)))
+        (up-to sentinel (subst (λ (l : List ℕ). Leads s t l sentinel) e right .0))
     closes (y ∷ ys) e =
-        let r : Runs s t (y ∷ ys) sentinel = subst (λ (l : List ℕ). Runs s t l sentinel) e right in
+        let r : Leads s t (y ∷ ys) sentinel = subst (λ (l : List ℕ). Leads s t l sentinel) e right in
         let on : (x : ℕ) → member x (y ∷ ys) ≡ true → member x (place .back) ≡ true =
         λ x i. subst (λ (l : List ℕ). member x l ≡ true) (sym e) i in
         let own : member sentinel ys ≡ false =
@@ -247,7 +242,7 @@ module _ (s : Sides) (order : List ℕ) (k : Chained s order) where
         record {
           befores = pass-sizes .0;
           afters = pass-sizes .1;
-          runs = subst (λ (l : List ℕ). Runs (passedOver t s) sentinel l sentinel) (sym (place .rest)) (closes (place .back) refl);
+          path = subst (λ (l : List ℕ). Leads (passedOver t s) sentinel l sentinel) (sym (place .rest)) (closes (place .back) refl);
           low = still-low;
         }
 
@@ -267,7 +262,7 @@ append-links s order t k small out =
     record {
       befores = c .befores;
       afters = c .afters;
-      runs = c .runs;
+      path = c .path;
       low = all-low (appended t s) (last t order) c;
       free = λ v low none.
           let apart : v ≡ t → ⊥ = λ e. unlike t v (last t order) (member-last t order) none (sym e) in
@@ -287,7 +282,7 @@ strike-links s order t k h =
     record {
       befores = length-put _ t unlisted ∙ p .befores;
       afters = length-put _ t unlisted ∙ p .afters;
-      runs = kept (passedOver t s) (cleared t (passedOver t s)) sentinel (without t order) sentinel (p .runs)
+      path = kept (passedOver t s) (cleared t (passedOver t s)) sentinel (without t order) sentinel (p .path)
           (λ x i. put-other _ t unlisted x
           (own-or-listed (λ y. y ≡ t → ⊥) (without t order) (λ e. absurd (omega arith)) (λ y j. unlike y t (without t order) j gone) x i))
           (λ x i. put-other _ t unlisted x (unlike x t (without t order) i gone))
@@ -322,7 +317,7 @@ back-links s order t k h =
     record {
       befores = b .befores;
       afters = b .afters;
-      runs = b .runs;
+      path = b .path;
       low = all-low (movedBack t s) (last t (without t order)) b;
       free = λ v low none.
           let apart : v ≡ t → ⊥ = λ e. unlike t v (last t (without t order)) (member-last t (without t order)) none (sym e) in

@@ -5,7 +5,7 @@ use mathlib.Core.List.{List, [], _∷_, _++_, map}
 use mathlib.Core.Bool.{Bool, true, false}
 use lib.ListN.{set, replicate}
 use Rattle.rules.specs.Tests.{member, below}
-use Rattle.neighbours.specs.Sides.{Sides, sides, sentinel, unlisted, neighbour}
+use Rattle.neighbours.specs.Sides.{sides, sentinel, unlisted, neighbour}
 use Rattle.neighbours.specs.Reading.{turnsFrom, turnsRead}
 use Rattle.neighbours.specs.Forming.{leadsBack, formsList}
 

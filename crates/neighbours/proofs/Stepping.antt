@@ -1,11 +1,11 @@
 -- Reading step by step: what is left of the turn order from an entry on is its neighbour, and then what is left from there.
-use Prim.Native.Nat.{ℕ, zero, suc, min, _+_, _-_, _≤_, _<_}
+use Prim.Native.Nat.{ℕ, zero, suc, _+_, _-_, _≤_, _<_}
 use mathlib.Core.Path.{_≡_, refl, sym, _∙_, ap, ap₂, subst}
 use mathlib.Core.List.{List, [], _∷_, _++_, append-nil}
 use native.Mathlib.Omega.{arith}
 use native.Mathlib.Numerals.{add-one}
 use lib.ListN.{length, getD, set, take, drop, replicate, length-append, length-replicate}
-use lib.Seq.{take-suc, drop-cons, append-snoc, length-take-le, set-at, take-at, take-all, take-length, drop-length}
+use lib.Seq.{take-suc, drop-cons, append-snoc, length-take-le, set-at, take-at, take-all}
 use lib.Dec.{leb}
 use borrow.Author.Tests.{leb-true, leb-false}
 use Rattle.rules.specs.State.{limit}

@@ -32,15 +32,15 @@ formsList s live =
     && below limit (λ t. entriesFree s (turnsRead (s .after) live) t)
 
 -- the same, said of the list: from a, each after the one before it and before the one after it, to b
-abbrev pub Runs : Sides → ℕ → List ℕ → ℕ → Type 0
-Runs s a [] b = (neighbour (s .after) a ≡ b) × (neighbour (s .before) b ≡ a)
-Runs s a (t ∷ l) b = (neighbour (s .after) a ≡ t) × (neighbour (s .before) t ≡ a) × Runs s t l b
+abbrev pub Leads : Sides → ℕ → List ℕ → ℕ → Type 0
+Leads s a [] b = (neighbour (s .after) a ≡ b) × (neighbour (s .before) b ≡ a)
+Leads s a (t ∷ l) b = (neighbour (s .after) a ≡ t) × (neighbour (s .before) t ≡ a) × Leads s t l b
 
 -- these neighbours are those of this turn order
 pub record Linked (s : Sides) (order : List ℕ) : Type 0 where
   pub befores : length (s .before) ≡ room
   pub afters : length (s .after) ≡ room
-  pub runs : Runs s sentinel order sentinel
+  pub path : Leads s sentinel order sentinel
   pub low : all (λ t. ltb t limit) order ≡ true
   pub free : (t : ℕ) → t < limit → member t order ≡ false → (neighbour (s .before) t ≡ unlisted) × (neighbour (s .after) t ≡ unlisted)
 

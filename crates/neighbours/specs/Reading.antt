@@ -6,7 +6,7 @@ use lib.ListN.{replicate}
 use lib.Dec.{eqb}
 use Rattle.rules.specs.State.{limit}
 use Rattle.tables.specs.Turning.{entriesOf}
-use Rattle.neighbours.specs.Sides.{Sides, sentinel, unlisted, neighbour}
+use Rattle.neighbours.specs.Sides.{sentinel, unlisted, neighbour}
 
 -- so many timeslices, each after the one before it, from an entry on
 unfoldable pub turnsFrom : ℕ → List ℕ → ℕ → List ℕ

@@ -1,6 +1,6 @@
 // Document 02, [8]: "Neighbours that form no such list make the machine unsound."
 ghost use mathlib.Core.Path.{_≡_};
-ghost use mathlib.Core.Bool.{_||_, _&&_};
+ghost use mathlib.Core.Bool.{_&&_};
 ghost use lib.Dec.{eqb};
 ghost use Rattle.neighbours.specs.Sides.{sides, sentinel, unlisted, neighbour as neighbourOf};
 ghost use Rattle.neighbours.specs.Forming.{leadsBack};

@@ -14,7 +14,6 @@ use borrow.Author.Tests.{ltb-true, ltb-false, lt-ltb, le-ltb, eq-eqb, ne-eqb}
 use Rattle.rules.specs.declared.Place.{Place}
 use Rattle.rules.specs.declared.Place.the-variants.{Queue, Behind, On, Stalled, Spent}
 use Rattle.rules.specs.declared.Timeslice.{Timeslice}
-use Rattle.rules.specs.declared.Slice.{Slice}
 use Rattle.rules.specs.State.{priorityAt, placeAt}
 use Rattle.rules.specs.Order.{topmost, upper}
 use Rattle.rules.proofs.Basics.Views.{Two, yes-true, no-false, two, Same, equal, different, same}

@@ -1,6 +1,6 @@
 -- THE THEOREM about the code of both engines, known by the contracts of their public functions alone: from each sound machine, which the
 -- plain engine takes without its places, after every event of every list they agree, and neither refuses with 1.
-use mathlib.Core.Path.{_≡_, refl, sym, ap, subst, _∙_}
+use mathlib.Core.Path.{_≡_, sym, ap, subst, _∙_}
 use mathlib.Core.List.{List, [], _∷_}
 use mathlib.Core.Bool.{true}
 use Rattle.rules.specs.declared.Event.{Event}

@@ -1,6 +1,5 @@
 -- The tests joined are document 01's whole test; those of the list laid out are those of the list.
 use mathlib.Core.Path.{_∙_, ap}
-use mathlib.Core.List.{List}
 use lib.ListN.{take}
 use Rattle.neighbours.proofs.Stepping.{take-laid}
 use Rattle.soundness.proofs.Whole.{whole}

@@ -1,5 +1,5 @@
 -- Nobody was On the thread, or the topmost of them joined Queue; where there was one only, it is stored in its place.
-use mathlib.Core.Path.{_≡_, sym, subst}
+use mathlib.Core.Path.{sym, subst}
 use mathlib.Core.Logic.{⊎-elim}
 use lib.ListN.{length-map}
 use Rattle.rules.specs.Release.{onThread, topmostAt}

@@ -1,5 +1,5 @@
 -- Both sides are asked.
-use mathlib.Core.Path.{refl, sym, _∙_}
+use mathlib.Core.Path.{refl}
 use borrow.Author.Tests.{ne-eqb, eq-eqb}
 use Rattle.neighbours.proofs.forming.entries_free.Statement.{statement}
 use Rattle.neighbours.proofs.forming.entries_free.Tie as tie

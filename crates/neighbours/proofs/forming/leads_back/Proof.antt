@@ -1,9 +1,6 @@
 -- Each step back is asked as it is made, so that what is left to ask is the whole.
-use mathlib.Core.Path.{_≡_, refl, sym, _∙_}
 use native.Mathlib.Omega.{arith}
-use borrow.Author.Tests.{eq-eqb, ne-eqb, lt-ltb, le-ltb}
-use Rattle.neighbours.specs.Sides.{sides, sentinel}
-use Rattle.neighbours.specs.Forming.{leadsBack}
+use Rattle.neighbours.specs.Sides.{sides}
 use Rattle.neighbours.proofs.Backward.{Asked, ask-all, not-low, not-back, goes-on, not-closed, closed}
 use Rattle.neighbours.proofs.forming.leads_back.Statement.{statement}
 use Rattle.neighbours.proofs.forming.leads_back.Tie as tie

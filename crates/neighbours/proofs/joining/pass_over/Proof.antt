@@ -1,5 +1,4 @@
 -- The two neighbours are joined.
-use mathlib.Core.Path.{refl}
 use Rattle.neighbours.specs.Joining.{passedOver}
 use Rattle.neighbours.proofs.joining.pass_over.Statement.{statement}
 use Rattle.neighbours.proofs.joining.pass_over.Tie as tie

@@ -1,6 +1,5 @@
 -- After i steps the first i entries are those of the turn order, and the others 0.
 use Prim.Native.Nat.{_-_}
-use mathlib.Core.Path.{refl}
 use native.Mathlib.Omega.{arith}
 use Rattle.tables.specs.Turning.{entriesOf}
 use Rattle.neighbours.specs.Sides.{sentinel}
