@@ -1,3 +1,4 @@
+#![tactic(auto)]
 // Document 02, [12]: abort orders from the second processor. What giving an order and taking the orders answer, and what they leave in the
 // store and in the machine, is defined in specs/Orders.antt.
 ghost use Rattle.std.specs.Prelude.{◌≡◌};

@@ -1,3 +1,4 @@
+#![tactic(auto)]
 // Document 02, [9]: the interrupt lines of the bridge card, a register block of 12 lent bytes. What the four operations answer, and what
 // they leave in the block and in the machine, is defined in specs/Card.antt, for blocks of every length.
 ghost use Rattle.std.specs.Prelude.{◌≡◌};

@@ -1,3 +1,4 @@
+#![tactic(auto)]
 // Commands to the bridge card: a block, commands and an event file on standard input, what they do on standard output.
 use card_sheet::ROOM;
 

@@ -1,3 +1,4 @@
+#![tactic(auto)]
 // The stored machine of the dispatcher. Which state of document 01 it shows is said in specs/Shown.antt.
 ghost use Rattle.std.specs.Prelude.{◌≡◌};
 ghost use Rattle.dispatcher.specs.Shown.{empty_machine, sound_machine, turns_of};

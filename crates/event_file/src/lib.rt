@@ -1,3 +1,4 @@
+#![tactic(auto)]
 // Event files, document 01, "Event file and key". What the bytes mean is defined in rules, specs/EventFile.antt.
 pub mod lent;
 pub mod reader;

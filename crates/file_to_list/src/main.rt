@@ -1,3 +1,4 @@
+#![tactic(auto)]
 // Prints the events of the file on standard input, one a line in words.
 use list_writer::ROOM;
 

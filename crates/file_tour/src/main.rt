@@ -1,3 +1,4 @@
+#![tactic(auto)]
 // Writes a file with an event of each kind, reads it back, and reads damaged files.
 mod print;
 

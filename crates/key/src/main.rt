@@ -1,3 +1,4 @@
+#![tactic(auto)]
 // Prints the key of the event file on standard input.
 use key_sheet::ROOM;
 

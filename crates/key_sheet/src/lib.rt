@@ -1,3 +1,4 @@
+#![tactic(auto)]
 // From a file's bytes to the bytes of its key, document 01, "Event file and key". The key is defined in rules, specs/Key.antt. The two
 // numbers that a program over this crate needs, how much it must read and how much it must write, are fixed here by contracts.
 ghost use Rattle.std.specs.Prelude.{ℕ, ◌≡◌, List, ◌++◌, length, take, drop};

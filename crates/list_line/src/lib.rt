@@ -1,3 +1,4 @@
+#![tactic(auto)]
 // One line of a list in words: the event that it says, or what is wrong with it. What a line says is defined in specs/Reading.antt.
 mod kinds;
 mod operands;

@@ -1,3 +1,4 @@
+#![tactic(auto)]
 // Lists of events in words: what an examiner writes and reads instead of an event file's bytes. Reading is defined in specs/Reading.antt,
 // that of one line in list_line; writing in list_writer. The numbers that a program over this crate needs, how much it must read and how
 // much it must write, are fixed here by contracts.

@@ -1,3 +1,4 @@
+#![tactic(auto)]
 // Writes the event file of the list in words on standard input. What is wrong with the list goes to standard error.
 use list_text::{MOST, SENTENCE};
 

@@ -1,3 +1,4 @@
+#![tactic(auto)]
 // A file's events in words, as specs/Writing.antt defines them. The numbers that a program over this crate needs, how much it must read and
 // how much it must write, are fixed here by contracts.
 ghost use Rattle.std.specs.Prelude.{ℕ, ◌≡◌, List, ◌++◌, length, take, drop};

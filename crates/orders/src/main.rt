@@ -1,3 +1,4 @@
+#![tactic(auto)]
 // Abort orders: commands and an event file on standard input, what the commands do on standard output.
 use orders_sheet::ROOM;
 

@@ -1,3 +1,4 @@
+#![tactic(auto)]
 // From an input's bytes to the bytes that the program `orders` prints: commands, and an event file behind them. Both are defined in
 // specs/Sheet.antt. The two numbers that a program over this crate needs, how much it must read and how much it must write, are fixed here
 // by contracts.

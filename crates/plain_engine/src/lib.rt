@@ -1,3 +1,4 @@
+#![tactic(auto)]
 // Document 02, [1]: an engine that runs document 01's plain machine, "with no places and every timeslice judged at every event". The walk
 // and the rules of threads are those of crate tables; what reads timeslices is the engine's own, since its timeslices have no place.
 ghost use Rattle.std.specs.Prelude.{◌≡◌};

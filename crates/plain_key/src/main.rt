@@ -1,3 +1,4 @@
+#![tactic(auto)]
 // Prints the plain machine's key of the event file on standard input.
 use plain_sheet::ROOM;
 

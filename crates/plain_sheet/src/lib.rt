@@ -1,3 +1,4 @@
+#![tactic(auto)]
 // From a file's bytes to the bytes of the plain machine's key, document 02, [1]: "each event's line without its last column". The key is
 // defined in rules, specs/Key.antt (`plain_key`). The two numbers that a program over this crate needs, how much it must read and how much
 // it must write, are fixed here by contracts.

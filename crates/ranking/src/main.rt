@@ -1,3 +1,4 @@
+#![tactic(auto)]
 // Looks up intervals in a ranking table: both on standard input, the answers on standard output.
 use ranking_sheet::ROOM;
 

@@ -1,3 +1,4 @@
+#![tactic(auto)]
 // Document 02, [10]: the ranking table of a survey office, which turns a sensor's message interval into a priority. What a table and a
 // lookup answer is defined in specs/Ranking.antt.
 //

@@ -1,3 +1,4 @@
+#![tactic(auto)]
 // Prints the reason after an event: its number in 4 bytes, and then the event file, on standard input.
 use reason_sheet::ROOM;
 

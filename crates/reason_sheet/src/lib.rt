@@ -1,3 +1,4 @@
+#![tactic(auto)]
 // From an event number and a file's bytes to the bytes of the reason, document 02, [5]. The reason is defined in rules, specs/Reason.antt.
 // The two numbers that a program over this crate needs, how much it must read and how much it must write, are fixed here by contracts.
 ghost use Rattle.std.specs.Prelude.{ℕ, ◌<◌, ◌≡◌, List, ◌++◌, length, take, drop};

@@ -24,6 +24,7 @@ goes_on true k x later = record { is = by (event_number k) x }
   where
     by : (c : Bool) → T c → c ≡ true
     by true y = refl
+    by false y = elim y [ ]
 goes_on false k x later = later
 
 none : Numbered 0

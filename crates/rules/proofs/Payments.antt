@@ -141,6 +141,7 @@ charged_of t (e ∷ es) s h =
 -- and whoever is so charged has paid
 pub of_charged : (t : ℕ) (es : List Event) (s : State) → Charged t es s → has_paid (paid_in es s) t ≡ true
 unfolding run payments
+of_charged t [] s x = elim x [ ]
 of_charged t (e ∷ es) s (now c q a) =
     let first-paid = paid (offer e s).refusal s.running e in
     let rest = paid_in es (offer e s).state in

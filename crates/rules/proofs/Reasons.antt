@@ -83,7 +83,7 @@ over_unlinked next (Calling server) e = let z : ◌≡◌ {A = ℕ} 0 1 = cc in 
 over_unlinked next (Helping server) e = let z : ◌≡◌ {A = ℕ} 0 1 = cc in absurd (omega arith)
 
 -- a chain that ends within k links is written out whole
-written : (ts : List Thread) {n m : ℕ} {c d : Chain} (k : ℕ) → To (link_at ts) n c m d → link_at ts m ≡ unlinked
+written : (ts : List Thread) (k : ℕ) {n m : ℕ} {c d : Chain} → To (link_at ts) n c m d → link_at ts m ≡ unlinked
     → d.links < c.links + k → Chained ts n m (threads_from k ts n)
 unfolding threads_from
 written ts zero p e h = absurd (omega (arith, links_grow p))

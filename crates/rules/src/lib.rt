@@ -1,15 +1,16 @@
+#![tactic(auto)]
 // Document 01, "What belongs to the machine", and document 02, [2] to [5]: the records of threads and timeslices, and the events.
 // What they mean is defined in specs/.
 
 // A thread is a client or a server.
-#[derive(Drop)]
+#[derive(Clone, Copy)]
 pub enum Role {
     Client,
     Server,
 }
 
 // Calling is a donation link to a server, Helping a helping link.
-#[derive(Drop)]
+#[derive(Clone, Copy)]
 pub enum Hold {
     Ready,
     Idle,
@@ -19,14 +20,14 @@ pub enum Hold {
 }
 
 // Orphan: the caller served has gone, and its request is unfinished.
-#[derive(Drop)]
+#[derive(Clone, Copy)]
 pub enum Service {
     Nobody,
     Serving(u8),
     Orphan,
 }
 
-#[derive(Drop)]
+#[derive(Clone, Copy)]
 pub struct Thread {
     pub live: bool,
     pub role: Role,
@@ -48,7 +49,7 @@ impl Thread {
 }
 
 // Spent: nothing is left of it until it is refilled.
-#[derive(Drop)]
+#[derive(Clone, Copy)]
 pub enum Place {
     Queue,
     Behind(u8),
@@ -57,7 +58,7 @@ pub enum Place {
     Spent,
 }
 
-#[derive(Drop)]
+#[derive(Clone, Copy)]
 pub struct Timeslice {
     pub owner: u8,
     pub priority: u8,
@@ -81,7 +82,7 @@ impl Timeslice {
 }
 
 // "A timeslice has an owner, a priority, a quantum and what is left": one without its place, as the plain machine has it.
-#[derive(Drop)]
+#[derive(Clone, Copy)]
 pub struct Slice {
     pub owner: u8,
     pub priority: u8,
@@ -103,7 +104,7 @@ impl Slice {
 }
 
 // The running thread, the current timeslice, which pays, and the donation count.
-#[derive(Drop)]
+#[derive(Clone, Copy)]
 pub enum Running {
     Nothing,
     Runs {
@@ -114,7 +115,7 @@ pub enum Running {
 }
 
 // "the last thread before the end, or none where no link was followed or the walk loops"
-#[derive(Drop)]
+#[derive(Clone, Copy)]
 pub enum LastThread {
     None,
     Is(u8),
@@ -123,7 +124,7 @@ pub enum LastThread {
 // What a walk finds. The count is the donation count; the helper is the thread whose helping link was
 // followed last, 0 where there is none; helping is the number of helping links followed. A loop has only
 // its links and how many of them were helping.
-#[derive(Drop)]
+#[derive(Clone, Copy)]
 pub struct Chain {
     pub looped: bool,
     pub end: u8,
@@ -135,7 +136,7 @@ pub struct Chain {
 }
 
 // Document 02, [5]: why a timeslice that stands above the current one does not run. Waits: for the thread at its chain's end.
-#[derive(Drop)]
+#[derive(Clone, Copy)]
 pub enum Cause {
     Waits(u8),
     Loops,
@@ -143,7 +144,7 @@ pub enum Cause {
 }
 
 // The events, each with the operands of its record in an event file.
-#[derive(Drop)]
+#[derive(Clone, Copy)]
 pub enum Event {
     Create {
         thread: u8,

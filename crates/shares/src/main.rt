@@ -1,3 +1,4 @@
+#![tactic(auto)]
 // Prints the shares of the event file on standard input.
 use shares_sheet::ROOM;
 

@@ -1,3 +1,4 @@
+#![tactic(auto)]
 // From a file's bytes to the bytes of its shares, document 02, [13]. The shares are defined in rules, specs/Shares.antt. The two numbers
 // that a program over this crate needs, how much it must read and how much it must write, are fixed here by contracts.
 ghost use Rattle.std.specs.Prelude.{ℕ, ◌≡◌, List, ◌++◌, length, take, drop};

@@ -1,3 +1,4 @@
+#![tactic(auto)]
 // Shortens a question: a refusal number in one byte, and then an event file, on standard input; the shorter file on standard output.
 use shorten_sheet::ROOM;
 

@@ -1,3 +1,4 @@
+#![tactic(auto)]
 // From a refusal number and a file's bytes to the bytes of a shorter question, document 02, [11]. It is defined in rules,
 // specs/Shorten.antt. The two numbers that a program over this crate needs, how much it must read and how much it must write, are fixed
 // here by contracts.

@@ -1,3 +1,4 @@
+#![tactic(auto)]
 // Document 01, "A sound machine": the test over the parts of a stored machine. Each clause has its module; each_number goes once through
 // the slots and each_turn once along the turn order, and ask every clause there.
 ghost use Rattle.std.specs.Prelude.{◌≡◌};

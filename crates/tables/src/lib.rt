@@ -1,3 +1,4 @@
+#![tactic(auto)]
 // Functions on the stored tables of threads and timeslices. Each public one is total: its contract is an equation for every table and every
 // number, also for a number past the end of a table and for more live entries than a turn order has room for.
 pub mod ends;

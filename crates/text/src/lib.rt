@@ -1,3 +1,4 @@
+#![tactic(auto)]
 // Text put into a lent buffer: bytes, decimal numbers, a refused file's line, the columns of the key's lines. Each function gives the
 // place after the last byte that it wrote, where the next one goes on. What has no room is cut off, so that none of them asks for room;
 // `at_front` in proofs/Puts.antt says what is in the buffer where there is room. Last, the buffer for a file that is read.

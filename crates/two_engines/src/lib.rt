@@ -1,3 +1,4 @@
+#![tactic(auto)]
 // The two engines side by side, document 02, [1]: a machine of the dispatcher as the plain engine takes it, and the keys of both. That they
 // agree is proved in proofs/Demand.antt.
 ghost use Rattle.std.specs.Prelude.{◌≡◌, map, take};

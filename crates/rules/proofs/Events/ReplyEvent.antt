@@ -75,16 +75,16 @@ module _ (s : State) (x : Sound s) (server t count : ℕ) (a : Active s server t
         }
 
     -- from the caller the links do not come back to it
-    comes-once : {e d : Chain} → To (link_at s.threads) caller e caller d → e ≡ d
-    comes-once stop = refl
-    comes-once (call {s = k} f p) =
+    comes-once : {m : ℕ} {e d : Chain} → m ≡ caller → To (link_at s.threads) caller e m d → e ≡ d
+    comes-once at stop = refl
+    comes-once at (call {s = k} f p) =
         let to : donation k ≡ donation server = sym f ∙ ap link_of calls in
         let z : k ≡ server = cc in
-        let back : k ≡ caller = at_once (ap (link_at s.threads) z ∙ ap link_of a.runs.ready) p in
+        let back : k ≡ caller = at_once (ap (link_at s.threads) z ∙ ap link_of a.runs.ready) p ∙ at in
         let ready = a.runs.ready in
         let same-hold : hold_at s.threads server ≡ hold_at s.threads caller = ap (hold_at s.threads) (sym z ∙ back) in
         let w : ◌≡◌ {A = ℕ} 0 1 = cc in absurd (omega arith)
-    comes-once (help f p) =
+    comes-once at (help f p) =
         let g = ap link_of calls in let w : ◌≡◌ {A = ℕ} 0 1 = cc in absurd (omega arith)
 
     -- with a count above 0 the last link is the caller's donation
@@ -102,7 +102,7 @@ module _ (s : State) (x : Sound s) (server t count : ℕ) (a : Active s server t
       where
         by : Split (link_at s.threads) (link_at ts') caller (owner s t) no_links caller d → To (link_at ts') (owner s t) no_links caller d
         by (same q) = q
-        by (via q q' rest) = subst (λ (c : Chain). To (link_at ts') (owner s t) no_links caller c) (comes-once rest) q'
+        by (via q q' rest) = subst (λ (c : Chain). To (link_at ts') (owner s t) no_links caller c) (comes-once refl rest) q'
 
     settled : 0 < count → Settled (with_running (Runs caller t (count - 1)) (with_threads ts' s))
     settled h =

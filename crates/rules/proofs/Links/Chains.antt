@@ -230,7 +230,7 @@ step k ts n c l e = rw (← e) (follow_by_link (walk_from k ts) n c (hold_at ts 
 
 -- a walk that may follow enough links finds where they end
 finds :
-    (ts : List Thread) {n m : ℕ} {c d : Chain} (k : ℕ) → To (link_at ts) n c m d → link_at ts m ≡ unlinked
+    (ts : List Thread) (k : ℕ) {n m : ℕ} {c d : Chain} → To (link_at ts) n c m d → link_at ts m ≡ unlinked
     → d.links < c.links + k → walk_from k ts n c ≡ ended m d
 unfolding by_link
 finds ts zero p e h = absurd (omega (arith, links_grow p))
