@@ -1,0 +1,15 @@
+-- Past the end stands the free timeslice.
+use Prim.Native.Nat.{ℕ}
+use mathlib.Core.Path.{ap, sym}
+use lib.ListN.{get_or}
+use Rattle.tables.specs.Timeslices.{free_timeslice}
+use Rattle.tables.proofs.Lookups.{past}
+use Rattle.tables.proofs.lookup.timeslice_at.Goals as goal
+
+pub returns-then-k-lt128 : goal.returns-then-k-lt128
+returns-then-k-lt128 c =
+    ap (λ (i : ℕ). get_or c.args.timeslices i free_timeslice) c.index-k.ensures
+
+pub returns : goal.returns
+returns c =
+    sym (past c.args.timeslices _ _ free_timeslice c.well_formed.0.1.0.1 c.index-k.ensures c.if-k-lt128.false)
