@@ -20,7 +20,7 @@ pub(crate) fn join<'a>(before: &'a mut [u8; 129], after: &'a mut [u8; 129], a: u
 
 // A timeslice that is not listed goes last.
 pub fn append<'a>(before: &'a mut [u8; 129], after: &'a mut [u8; 129], t: u8)
-    ensures after_after { sides before.new after.new
+    ensures entries { sides before.new after.new
         ≡ appended t (sides before.old after.old) }
     ensures turned { Changes (λ order. ltb t limit && not (member t order)) (last t)
         (sides before.old after.old) (sides before.new after.new) }
@@ -42,7 +42,7 @@ pub(crate) fn pass_over<'a>(before: &'a mut [u8; 129], after: &'a mut [u8; 129],
 
 // A listed timeslice leaves the turn order, and its entries are free.
 pub fn strike_out<'a>(before: &'a mut [u8; 129], after: &'a mut [u8; 129], t: u8)
-    ensures after_after { sides before.new after.new
+    ensures entries { sides before.new after.new
         ≡ struck_out t (sides before.old after.old) }
     ensures turned { Changes (member t) (without t) (sides before.old after.old)
         (sides before.new after.new) }
@@ -54,7 +54,7 @@ pub fn strike_out<'a>(before: &'a mut [u8; 129], after: &'a mut [u8; 129], t: u8
 
 // A listed timeslice goes to the back of the turn order.
 pub fn move_back<'a>(before: &'a mut [u8; 129], after: &'a mut [u8; 129], t: u8)
-    ensures after_after { sides before.new after.new
+    ensures entries { sides before.new after.new
         ≡ moved_back t (sides before.old after.old) }
     ensures turned { Changes (member t) (to_back t) (sides before.old after.old)
         (sides before.new after.new) }

@@ -193,7 +193,7 @@ pub fn release_set(
     live: u8,
     set: Place,
 ) -> Sought
-    ensures result_value { sought_of result ≡ top_in (code_of set) order.now live codes.old heights.now }
+    ensures topmost { sought_of result ≡ top_in (code_of set) order.now live codes.old heights.now }
     ensures released { ReleasedCodes set order.now live codes.old codes.new result }
 {
     let c = code(set);

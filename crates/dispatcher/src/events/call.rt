@@ -16,7 +16,7 @@ impl Machine {
     // The server is Idle: the caller donates to it.
     pub(crate) fn call_donates(mut self, server: u8, caller: u8, t: u8, count: u8) -> Answered
         requires choosable { Choosable self 0 }
-        requires count_bound { count ≤ 128 }
+        requires in_range { count ≤ 128 }
         ensures { Settled (settle (call_donates server caller t count (shown self))) result }
     {
         let threads = self.threads;

@@ -18,9 +18,9 @@ impl Machine {
     // The current timeslice goes to the back and is Spent, and its followers are released.
     pub(crate) fn depleted(mut self, t: u8, units: u16) -> Answered
         requires choosable { Choosable self 0 }
-        requires t_bound { t < 128 }
-        requires self_value { memberOf t (shown self).order ≡ true }
-        requires units_bound { units ≤ left_at (shown self).slices t }
+        requires in_range { t < 128 }
+        requires listed { memberOf t (shown self).order ≡ true }
+        requires payable { units ≤ left_at (shown self).slices t }
         ensures { Settled (settle (depletes t units (shown self))) result }
     {
         let k = index(t);

@@ -25,8 +25,8 @@ impl Machine {
     // The timeslice leaves the turn order, its slot is free, and its followers are released.
     pub(crate) fn struck_out(mut self, t: u8) -> Machine
         requires choosable { Choosable self 0 }
-        requires t_bound { t < 128 }
-        requires self_value { memberOf t (shown self).order ≡ true }
+        requires in_range { t < 128 }
+        requires listed { memberOf t (shown self).order ≡ true }
         ensures { Shows (strike_out (some t) (shown self)) result }
     {
         let k = index(t);
@@ -60,8 +60,8 @@ impl Machine {
 
     // First the walk from the thread; then its own timeslice and its record go, and those that waited at the walk's end are released.
     pub(crate) fn remove_walks(self, n: u8) -> Answered
-        requires self_value { sound_machine self ≡ true }
-        requires n_value { live_at (shown self).threads n ≡ true }
+        requires sound { sound_machine self ≡ true }
+        requires live { live_at (shown self).threads n ≡ true }
         ensures { Settled (settle (remove n (shown self))) result }
     {
         let threads = self.threads;
