@@ -1,6 +1,6 @@
 -- The release of a set of one: nobody goes Behind another, so that only its timeslice moves.
 use Prim.Native.Nat.{ℕ, suc}
-use mathlib.Core.Path.{◌≡◌, refl, sym, ◌∙◌, ap}
+use mathlib.Core.Path.{◌≡◌, refl, sym, ◌∙◌, ap, subst}
 use mathlib.Core.List.{List, [], ◌∷◌}
 use mathlib.Core.Bool.{Bool, true, false}
 use mathlib.Core.Option.{none, some}
@@ -88,7 +88,7 @@ one_released at ss ps (t ∷ l) q top one = by (two (at (place_at ps t))) (λ to
     by (yes_true e) rest =
         let none_after : length (filter (λ u. at (place_at ps u)) l) ≡ 0 = alone e in
         let this : t ≡ q = only e none_after in
-        rw (sym this) (moves_alone at ps t l e none_after)
+        subst (λ (x : ℕ). released_places at x (t ∷ l) ps ≡ set ps x Queue) this (moves_alone at ps t l e none_after)
       where
         alone : at (place_at ps t) ≡ true → length (filter (λ u. at (place_at ps u)) l) ≡ 0
         alone is = let s : suc (length (filter (λ u. at (place_at ps u)) l)) ≡ 1 = rw is at one in omega arith
