@@ -14,7 +14,7 @@ use dispatcher::Machine;
 use giving::give;
 
 // "an order number of 4 bytes, and abort or withdraw", or no order.
-#[derive(Drop)]
+#[derive(Clone, Copy)]
 pub enum Order {
     Nothing,
     Abort(u32),
@@ -22,7 +22,7 @@ pub enum Order {
 }
 
 // What is held for a thread.
-#[derive(Drop)]
+#[derive(Clone, Copy)]
 pub struct Slot {
     pub order: Order,
 }
@@ -34,20 +34,20 @@ impl Slot {
 }
 
 // "Keep one order for each thread".
-#[derive(Drop)]
+#[derive(Clone, Copy)]
 pub struct Store {
     pub slots: [Slot; 128],
 }
 
 // What giving an order hands back: the store after it, and the refusal number, 0 for none.
-#[derive(Drop)]
+#[derive(Clone, Copy)]
 pub struct Given {
     pub store: Store,
     pub refusal: u8,
 }
 
 // What taking the orders hands back: "the machine, the cleared store and the count", and the refusal number, 0 for none.
-#[derive(Drop)]
+#[derive(Clone, Copy)]
 pub struct Taken {
     pub machine: Machine,
     pub store: Store,
@@ -56,7 +56,7 @@ pub struct Taken {
 }
 
 // A thread whose abort is held, with its order number.
-#[derive(Drop)]
+#[derive(Clone, Copy)]
 pub struct HeldAbort {
     pub thread: u8,
     pub number: u32,

@@ -15,7 +15,7 @@ use lines::{NO_LINE, line_to_take};
 use refusals::{is_not_written, refusal_of};
 
 // What a read hands back: its refusal number, 0 for none, and the byte.
-#[derive(Drop)]
+#[derive(Clone, Copy)]
 pub struct Reading {
     pub refusal: u8,
     pub byte: u8,

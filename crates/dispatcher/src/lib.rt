@@ -12,7 +12,7 @@ use neighbours::reading::laid_out;
 use rules::{Running, Thread, Timeslice};
 
 // The small fields come first: then what an answer copies beside a new `running` is in few pieces.
-#[derive(Drop)]
+#[derive(Clone, Copy)]
 pub struct Machine {
     pub running: Running,
     // L and T, the numbers of live threads and timeslices.
@@ -27,7 +27,7 @@ pub struct Machine {
 }
 
 // The machine after an event, with the answer: the refusal number, 0 for none, and the links followed.
-#[derive(Drop)]
+#[derive(Clone, Copy)]
 pub struct Answered {
     pub machine: Machine,
     pub refusal: u8,

@@ -15,7 +15,7 @@ mod updates;
 
 use rules::{Event, Running, Slice, Thread};
 
-#[derive(Drop)]
+#[derive(Clone, Copy)]
 pub struct PlainMachine {
     pub threads: [Thread; 128],
     pub slices: [Slice; 128],
@@ -26,7 +26,7 @@ pub struct PlainMachine {
 }
 
 // The machine after an event, with the refusal number, 0 for none.
-#[derive(Drop)]
+#[derive(Clone, Copy)]
 pub struct Answered {
     pub machine: PlainMachine,
     pub refusal: u8,

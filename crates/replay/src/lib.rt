@@ -20,7 +20,7 @@ pub fn refusal_behind(input: &[u8], at: usize) -> u8
 }
 
 // The machine after some events of a file, where the next one begins, and the links that they followed in all.
-#[derive(Drop)]
+#[derive(Clone, Copy)]
 pub struct Ran {
     pub machine: Machine,
     pub offset: usize,

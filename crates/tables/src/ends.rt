@@ -8,7 +8,7 @@ use crate::lookup::thread_at;
 use crate::records::is_blocked;
 use rules::{Chain, Hold, Thread};
 
-#[derive(Drop)]
+#[derive(Clone, Copy)]
 pub enum Verdict {
     Runs,
     Retries,

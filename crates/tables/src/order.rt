@@ -7,7 +7,7 @@ use crate::numbers::entries;
 use rules::Place;
 
 // What a search for a timeslice finds.
-#[derive(Drop)]
+#[derive(Clone, Copy)]
 pub enum Sought {
     Nothing,
     At(u8),

@@ -15,7 +15,7 @@ use tables::numbers::{entries, index, wide};
 use tables::order::Sought;
 
 // Which timeslices of the turn order are in a set: none, one, or several with this topmost one.
-#[derive(Drop)]
+#[derive(Clone, Copy)]
 pub enum Members {
     None,
     One(u8),
@@ -23,7 +23,7 @@ pub enum Members {
 }
 
 // The topmost member so far, and the least priority of a later one that stands above it: 0 while there is no member.
-#[derive(Drop)]
+#[derive(Clone, Copy)]
 pub(crate) struct Found {
     pub best: u8,
     pub least: u16,
