@@ -24,7 +24,7 @@ pub struct Stepped {
     pub offset: usize,
 }
 
-#[derive(Drop)]
+#[derive(Clone, Copy)]
 pub struct Opened {
     pub refusal: u8,
     pub offset: usize,

@@ -8,7 +8,7 @@ use rules::Event;
 mod records;
 mod stores;
 
-#[derive(Drop)]
+#[derive(Clone, Copy)]
 pub struct Written {
     pub refusal: u8,
     pub filled: usize,
