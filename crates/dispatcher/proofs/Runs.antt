@@ -1,6 +1,5 @@
 -- Lists of events whose answers are those of the dispatcher's own public methods, known by their contracts alone: a machine stays sound,
 -- and the last one is what the definitions say.
-use Prim.Native.Nat.{ℕ}
 use native.Mathlib.Omega.{arith}
 use mathlib.Core.Path.{◌≡◌, refl, sym, ap, ◌∙◌, subst}
 use mathlib.Core.List.{List, [], ◌∷◌, map}
