@@ -4,18 +4,14 @@ use mathlib.Core.Path.{◌≡◌, refl}
 use Rattle.list_line.specs.declared.Line.{Line}
 use Rattle.list_line.specs.declared.Line.TheVariants.{Wrong}
 use Rattle.list_line.specs.Scanning.{or_wrong}
-use Rattle.list_line.proofs.kinds.answer.Statement.{statement}
-use Rattle.list_line.proofs.kinds.answer.Tie as tie
+use Rattle.list_line.proofs.kinds.answer.Goals as goal
 
 wrong : (fault : ℕ) (line : Line) → (fault ≡ 0 → ⊥) → Wrong fault ≡ or_wrong fault line
 wrong zero line h = absurd (h refl)
 wrong (suc fault) line h = refl
 
-returns : tie.Need-returns
-returns c = wrong c.before.args.fault _ c.if1.true
+pub returns-then-fault-ne0 : goal.returns-then-fault-ne0
+returns-then-fault-ne0 c = wrong c.args.fault _ c.if-fault-ne0.true
 
-returns-2 : tie.Need-returns-2
-returns-2 c = rw c.if1.false refl
-
-pub answer-spec : {M : Type 1} → statement M
-answer-spec = tie.close (tie.spec returns returns-2)
+pub returns : goal.returns
+returns c = rw c.if-fault-ne0.false refl
