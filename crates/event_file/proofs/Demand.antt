@@ -1,8 +1,7 @@
 -- THE THEOREM about the code of event files, demand 2. What the code answers is known by the contracts of `start` and `append` alone; by
 -- these its answers are the definitions' (`as-defined`), of which rules/proofs/Files/Inverse.antt speaks.
 use Prim.Native.Nat.{ℕ, ◌≤◌}
-use native.Mathlib.Omega.{arith}
-use mathlib.Core.Path.{◌≡◌, refl, sym, ap, ◌∙◌}
+use mathlib.Core.Path.{◌≡◌, refl, ap, ◌∙◌}
 use mathlib.Core.List.{List, [], ◌∷◌}
 use mathlib.Core.Option.{some}
 use lib.ListN.{length, take, drop}

@@ -1,6 +1,5 @@
 // Document 01: "The event reader carries the file it was given and an offset into it, as a struct over the lent bytes." Each
-// function takes the struct apart and calls the cursor function on its file and offset. The borrow checker covers no function
-// over such a struct, so each is proved by a walk of its MIR, by hand.
+// function takes the struct apart and calls the cursor function on its file and offset.
 ghost use Rattle.std.specs.Prelude.{◌≡◌};
 ghost use Rattle.rules.specs.EventFile.{opened, stepped};
 ghost use Rattle.event_file.specs.Answers.{shown_found, refusal_of};
@@ -43,7 +42,7 @@ pub fn next<'s, 'a>(r: &'s mut Reader<'a>) -> Found
     read.found
 }
 
-// Opens a file and takes one step. Its caller has a plain slice and needs no walk.
+// Opens a file and takes one step. Its caller has a plain slice.
 pub fn first_event(file: &[u8]) -> Stepped
     ensures { (shown_found result.found ≡ (stepped file.now (opened file.now).offset).found)
         × (result.offset ≡ (stepped file.now (opened file.now).offset).offset)
