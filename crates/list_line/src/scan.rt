@@ -4,7 +4,7 @@ ghost use Rattle.list_line.specs.Reading.{blank};
 ghost use Rattle.list_line.specs.Scanning.{stops, end_of};
 
 // What a scan stops at: a line feed, `#`, a blank, a byte that is no blank.
-#[derive(Drop)]
+#[derive(Clone, Copy)]
 pub enum Until {
     LineFeed,
     Hash,

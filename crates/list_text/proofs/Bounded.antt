@@ -84,7 +84,8 @@ bounded_named w ws =
     (λ t first. bounded_number 255 4 (λ n ws. number 255 4 ws (λ p ws. number 65535 5 ws (λ q. words.last (Give t n p q))))
     (λ n second. bounded_number 255 4 (λ p ws. number 65535 5 ws (λ q. words.last (Give t n p q)))
     (λ p third. bounded_number 65535 5 (λ q. words.last (Give t n p q))
-    (λ q fourth. bounded_last (Give t n p q) (and_byte t _ first (and_byte n _ second (and_byte p _ third (two_bytes_lem q fourth)))))))) ws)
+    (λ q fourth. bounded_last (Give t n p q) (and_byte t _ first (and_byte n _ second (and_byte p _ third (two_bytes_lem q
+    fourth)))))))) ws)
     (either (words.same w (bytes "call")) _ _ (λ e. bounded_one Call one_byte_lem ws)
     (either (words.same w (bytes "reply")) _ _ (λ e. bounded_last Reply none ws)
     (either (words.same w (bytes "block")) _ _ (λ e. bounded_last Block none ws)

@@ -73,7 +73,8 @@ module _ {line : Line} {e : Event} {k : ℕ} (filled : ℕ) (told : line ≡ One
       let less : filled + length (record_of e) ≤ 65536 = omega arith in
       record {
         is = λ number next.
-            rw (told, long, le-ltb 65536 (filled + length (record_of e)) less) (counted_with filled e (next (filled + length (record_of e))));
+            rw (told, long, le-ltb 65536 (filled + length (record_of e)) less)
+            (counted_with filled e (next (filled + length (record_of e))));
       }
 
 -- counting: where the text is, and what is left to count
@@ -114,7 +115,8 @@ module _ {text : List ℕ} {at line filled end : ℕ} (c : Counting text at line
           ap (λ (b : Bool). cond b (record { bytes = 0; line = line; fault = fault })
           (counted after (read_lines (line + 1) after (later line_feed (drop at text))))) (sym good) ∙ here p
 
-      pub counted-all : length text ≤ end → record { bytes = after; line = 0; fault = 0 } ≡ counted 5 (read_lines 1 5 (parts line_feed text))
+      pub counted-all : length text ≤ end → record { bytes = after; line = 0; fault = 0 } ≡ counted 5
+          (read_lines 1 5 (parts line_feed text))
       unfolding read_lines records_of
       counted-all h =
           let sum : after ≡ after + 0 = omega arith in

@@ -49,18 +49,18 @@ module _ (line : List ℕ) (rest : List (List ℕ)) where
       let room = ltb-false 65536 (filled + length (record_of event)) t in
       rw t (carry_one filled event (next (filled + length (record_of event))) e (ih (filled + length (record_of event)) room))
 
-  after_line : (number filled : ℕ) (l : Line) (next : ℕ → Answer) → line_of line ≡ l → 1 ≤ number → filled ≤ 65536
+  after_any : (number filled : ℕ) (l : Line) (next : ℕ → Answer) → line_of line ≡ l → 1 ≤ number → filled ≤ 65536
       → ((k : ℕ) → k ≤ 65536 → Good k rest (next k)) → Good filled (line ∷ rest) (after_line number filled l next)
-  after_line number filled Empty next e some small ih = carry_empty filled (next filled) e (ih filled small)
-  after_line number filled (Wrong fault) next e some small ih = some
-  after_line number filled (One event) next e some small ih =
+  after_any number filled Empty next e some small ih = carry_empty filled (next filled) e (ih filled small)
+  after_any number filled (Wrong fault) next e some small ih = some
+  after_any number filled (One event) next e some small ih =
       after_one number filled event next e some ih (two (ltb 65536 (filled + length (record_of event))))
 
 lines_good : (lines : List (List ℕ)) (number filled : ℕ) → 1 ≤ number → filled ≤ 65536 → Good filled lines (read_lines number filled lines)
 unfolding read_lines lines_records records_of
 lines_good [] number filled some small = (omega arith, refl)
 lines_good (line ∷ rest) number filled some small =
-    after_line line rest number filled (line_of line) _ refl some small (λ k h. lines_good rest (number + 1) k (omega arith) h)
+    after_any line rest number filled (line_of line) _ refl some small (λ k h. lines_good rest (number + 1) k (omega arith) h)
 
 step_by : (b : Bool) (line : ℕ) → 1 ≤ line → 1 ≤ cond b (line + 1) line
 step_by true line h = omega arith

@@ -12,11 +12,14 @@ fn sentence_room() -> [u8; SENTENCE] {
     [0; SENTENCE]
 }
 
-fn main() {
+fn main(rt: HostRuntime) {
     let mut list = list_text::list_input();
-    let input = streams::fill(&mut list);
+    let input = streams::fill(rt.stdin(), &mut list);
     if input.failed {
-        streams::complain(b"list_to_file: standard input cannot be read\n");
+        streams::complain(
+            rt.stderr(),
+            b"list_to_file: standard input cannot be read\n",
+        );
         return;
     }
     let n = input.bytes;
@@ -25,12 +28,15 @@ fn main() {
     if filed.line != 0 {
         let mut sentence = sentence_room();
         let end = list_text::write_sentence(&mut sentence, filed.line, filed.fault);
-        streams::complain(&sentence[..end]);
+        streams::complain(rt.stderr(), &sentence[..end]);
         return;
     }
     let bytes = filed.bytes;
-    let output = streams::send(&out[..bytes]);
+    let output = streams::send(rt.stdout(), &out[..bytes]);
     if output.failed {
-        streams::complain(b"list_to_file: standard output cannot be written\n");
+        streams::complain(
+            rt.stderr(),
+            b"list_to_file: standard output cannot be written\n",
+        );
     }
 }

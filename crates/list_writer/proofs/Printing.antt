@@ -1,5 +1,5 @@
 -- Writing event by event: what is put and the text of the events that are left make the whole.
-use Prim.Native.Nat.{ℕ, ◌+◌, ◌≤◌, ◌<◌}
+use Prim.Native.Nat.{ℕ, ◌≤◌, ◌<◌}
 use mathlib.Core.Path.{◌≡◌, refl, sym, ap, ◌∙◌}
 use mathlib.Core.List.{List, [], ◌∷◌, ◌++◌, append_assoc, append-nil}
 use types.Run.{OneOf}
@@ -8,7 +8,6 @@ use lib.ListN.{length}
 use Rattle.rules.specs.declared.Event.{Event}
 use Rattle.rules.specs.declared.Event.TheVariants.{Give, Rank}
 use Rattle.rules.specs.EventFile.{file_refusal, events_of, event, stepped}
-use Rattle.rules.specs.EventFile as file
 use Rattle.rules.specs.Key.{bytes, decimal}
 use Rattle.event_file.specs.declared.reader.Found.{Found}
 use Rattle.event_file.specs.Answers.{shown_found}

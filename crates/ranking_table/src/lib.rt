@@ -18,7 +18,7 @@ use rows::{in_range, in_use, priority_in};
 pub const LONGEST: u16 = 60000;
 
 // "first, last, priority": "first and last inclusive"
-#[derive(Drop)]
+#[derive(Clone, Copy)]
 pub struct Row {
     pub first: u16,
     pub last: u16,
@@ -34,7 +34,7 @@ impl Row {
 }
 
 // "up to 64 rows in any order": there is room for more, so that more can be refused.
-#[derive(Drop)]
+#[derive(Clone, Copy)]
 pub struct Table {
     pub rows: [Row; Table::ROOM],
     pub count: usize,
@@ -47,7 +47,7 @@ impl Table {
 }
 
 // Refusal 0 where a lookup is accepted.
-#[derive(Drop)]
+#[derive(Clone, Copy)]
 pub struct Answer {
     pub refusal: u8,
     pub priority: u8,

@@ -7,18 +7,18 @@ fn room() -> [u8; ROOM] {
     [0; ROOM]
 }
 
-fn main() {
+fn main(rt: HostRuntime) {
     let mut bytes = reason_sheet::input();
-    let input = streams::fill(&mut bytes);
+    let input = streams::fill(rt.stdin(), &mut bytes);
     if input.failed {
-        streams::complain(b"reason: standard input cannot be read\n");
+        streams::complain(rt.stderr(), b"reason: standard input cannot be read\n");
         return;
     }
     let n = input.bytes;
     let mut out = room();
     let written = reason_sheet::write_reason(&bytes[..n], &mut out);
-    let output = streams::send(&out[..written]);
+    let output = streams::send(rt.stdout(), &out[..written]);
     if output.failed {
-        streams::complain(b"reason: standard output cannot be written\n");
+        streams::complain(rt.stderr(), b"reason: standard output cannot be written\n");
     }
 }

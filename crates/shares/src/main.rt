@@ -7,18 +7,18 @@ fn room() -> [u8; ROOM] {
     [0; ROOM]
 }
 
-fn main() {
+fn main(rt: HostRuntime) {
     let mut file = shares_sheet::input();
-    let input = streams::fill(&mut file);
+    let input = streams::fill(rt.stdin(), &mut file);
     if input.failed {
-        streams::complain(b"shares: standard input cannot be read\n");
+        streams::complain(rt.stderr(), b"shares: standard input cannot be read\n");
         return;
     }
     let n = input.bytes;
     let mut out = room();
     let written = shares_sheet::write_shares(&file[..n], &mut out);
-    let output = streams::send(&out[..written]);
+    let output = streams::send(rt.stdout(), &out[..written]);
     if output.failed {
-        streams::complain(b"shares: standard output cannot be written\n");
+        streams::complain(rt.stderr(), b"shares: standard output cannot be written\n");
     }
 }

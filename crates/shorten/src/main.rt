@@ -7,18 +7,18 @@ fn room() -> [u8; ROOM] {
     [0; ROOM]
 }
 
-fn main() {
+fn main(rt: HostRuntime) {
     let mut bytes = shorten_sheet::input();
-    let input = streams::fill(&mut bytes);
+    let input = streams::fill(rt.stdin(), &mut bytes);
     if input.failed {
-        streams::complain(b"shorten: standard input cannot be read\n");
+        streams::complain(rt.stderr(), b"shorten: standard input cannot be read\n");
         return;
     }
     let n = input.bytes;
     let mut out = room();
     let written = shorten_sheet::write_shorter(&bytes[..n], &mut out);
-    let output = streams::send(&out[..written]);
+    let output = streams::send(rt.stdout(), &out[..written]);
     if output.failed {
-        streams::complain(b"shorten: standard output cannot be written\n");
+        streams::complain(rt.stderr(), b"shorten: standard output cannot be written\n");
     }
 }

@@ -1,7 +1,7 @@
 // Standard input, read whole.
 ghost use Rattle.streams.specs.Counts.{Filled};
 
-use libc::STDIN_FILENO;
+use std::io::{Read, Stdin};
 
 // Whether reading failed, and how many bytes were read.
 #[derive(Drop)]
@@ -11,19 +11,17 @@ pub struct Input {
 }
 
 // Reads standard input until it ends or the buffer is full.
-pub fn fill(buffer: &mut [u8]) -> Input
+pub fn fill(mut from: Stdin, buffer: &mut [u8]) -> Input
     ensures { Filled result buffer.old buffer.new }
 {
     let mut at: usize = 0;
     while at < buffer.len() {
-        let got = libc::read(STDIN_FILENO, &mut buffer[at..]);
-        if got < 0 {
+        let Ok(n) = from.read(&mut buffer[at..]) else {
             return Input {
                 failed: true,
                 bytes: 0,
             };
-        }
-        let n = io::count(got, &buffer[at..]);
+        };
         if n == 0 {
             return Input {
                 failed: false,

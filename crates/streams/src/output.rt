@@ -1,7 +1,7 @@
 // Standard output and standard error, written whole.
 ghost use Rattle.streams.specs.Counts.{Sent};
 
-use libc::{STDERR_FILENO, STDOUT_FILENO};
+use std::io::{Stderr, Stdout, Write};
 
 // Whether writing failed, and how many bytes were written.
 #[derive(Drop)]
@@ -11,13 +11,12 @@ pub struct Output {
 }
 
 // Writes until all is written or a write fails or takes nothing.
-fn write_whole(descriptor: i32, text: &[u8]) -> Output
+fn write_whole<W: Write + Drop>(mut to: W, text: &[u8]) -> Output
     ensures { Sent result text.now }
 {
     let mut at: usize = 0;
     while at < text.len() {
-        let put = libc::write(descriptor, &text[at..]);
-        let n = io::count(put, &text[at..]);
+        let n = to.write(&text[at..]).unwrap_or(0);
         if n == 0 {
             return Output {
                 failed: true,
@@ -33,15 +32,15 @@ fn write_whole(descriptor: i32, text: &[u8]) -> Output
 }
 
 // Writes to standard output.
-pub fn send(text: &[u8]) -> Output
+pub fn send(to: Stdout, text: &[u8]) -> Output
     ensures { Sent result text.now }
 {
-    write_whole(STDOUT_FILENO, text)
+    write_whole(to, text)
 }
 
 // Says what went wrong, on standard error.
-pub fn complain(sentence: &[u8]) -> Output
+pub fn complain(to: Stderr, sentence: &[u8]) -> Output
     ensures { Sent result sentence.now }
 {
-    write_whole(STDERR_FILENO, sentence)
+    write_whole(to, sentence)
 }
