@@ -26,8 +26,8 @@ use Rattle.rules.specs.Threads.{set_hold, donate, replied, removed}
 use Rattle.rules.specs.Timeslices.{own_of, with_left, set_left, given, last, without, to_back, charged, refilled, struck}
 use Rattle.rules.specs.Timeslices.{with_priority, ranked}
 use Rattle.rules.specs.Refusals.{above_limit, ◌gives◌else◌}
-use Rattle.rules.specs.Plain.{plain_threads, plain_timeslices, plain_running, plain_call_at, plain_call, plain_reply_to, plain_reply, plain_block}
-use Rattle.rules.specs.Plain.{plain_charge, plain_strike, update}
+use Rattle.rules.specs.Plain.{plain_threads, plain_timeslices, plain_running, plain_call_at, plain_call, plain_reply_to, plain_reply}
+use Rattle.rules.specs.Plain.{plain_block, plain_charge, plain_strike, update}
 use Rattle.rules.proofs.Basics.Views.{Two, yes_true, no_false, two, clash, or_false_left, or_false_both}
 use Rattle.rules.proofs.Basics.Accepting.{passes}
 use Rattle.rules.proofs.Bounds.{turns_room}

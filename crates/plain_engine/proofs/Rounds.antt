@@ -3,11 +3,9 @@ use Prim.Native.Nat.{ℕ, suc, ◌+◌, ◌-◌, ◌<◌}
 use native.Mathlib.Omega.{arith}
 use native.Mathlib.Numerals.{add-one}
 use mathlib.Core.Path.{◌≡◌, sym, ap, ap₂, ◌∙◌}
-use mathlib.Core.List.{List, [], ◌∷◌}
-use mathlib.Core.Logic.{⊎_elim}
+use mathlib.Core.List.{List}
+use mathlib.Core.Logic.{◌⊎◌, inl, inr}
 use mathlib.Core.Option.{Option, none, some}
-use types.Run.{OneOf}
-use denote.Enum.Declared.{tag_of}
 use Rattle.rules.specs.declared.Chain.{Chain}
 use Rattle.rules.specs.declared.Running.TheVariants.{Nothing, Runs}
 use Rattle.rules.specs.declared.Thread.{Thread}
@@ -17,9 +15,8 @@ use Rattle.rules.specs.Walk.{walk, chain_of, verdict, Verdict, runs, retries, wa
 use Rattle.rules.specs.Threads.{donate}
 use Rattle.rules.specs.Plain.{plain_running, judge_by, judge_top, topmost_runnable, judge_from, judge}
 use Rattle.tables.specs.declared.ends.Verdict.{Verdict as Said}
-use Rattle.tables.specs.declared.ends.Verdict.TheVariants.{Runs as RunsNow, Retries, Waits, Stalls}
+use Rattle.tables.specs.declared.ends.Verdict.TheVariants.{Waits, Stalls}
 use Rattle.tables.specs.Verdicts.{verdict_of}
-use Rattle.tables.specs.contracts.ends.Verdict.{the_type}
 use Rattle.plain_engine.specs.declared.PlainMachine.{PlainMachine}
 use Rattle.plain_engine.specs.Shown.{plain_shown}
 
@@ -70,8 +67,6 @@ module _ {all : Plain} (rounds : ℕ) (m : PlainMachine) (j : Judging all rounds
     one-retries ths s new = ap (λ (l : List Thread). judge_from (rounds - 1) (plain_shown (threads_to l m))) new ∙ by retries s
 
     -- it does not arise, since the topmost may run
-    pub one-stays : (f : Said) → OneOf (2 ∷ 3 ∷ []) (tag_of the_type f) → v ≡ verdict_of f → plain_shown m ≡ all
-    one-stays RunsNow k s = absurd (⊎_elim (λ q. omega arith) (λ q. omega arith) k)
-    one-stays Retries k s = absurd (⊎_elim (λ q. omega arith) (λ q. omega arith) k)
-    one-stays Waits k s = by waits s
-    one-stays Stalls k s = by stalls s
+    pub one-stays : (f : Said) → (f ≡ Waits) ⊎ (f ≡ Stalls) → v ≡ verdict_of f → plain_shown m ≡ all
+    one-stays f (inl e) s = by waits (s ∙ ap verdict_of e)
+    one-stays f (inr e) s = by stalls (s ∙ ap verdict_of e)
