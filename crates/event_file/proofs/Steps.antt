@@ -4,7 +4,7 @@ use native.Mathlib.Omega.{arith}
 use mathlib.Core.Path.{◌≡◌, refl, sym, ap, ◌∙◌}
 use mathlib.Core.List.{List, [], ◌∷◌}
 use mathlib.Core.Bool.{Bool, true, false}
-use mathlib.Core.Logic.{⊎_elim}
+use mathlib.Core.Logic.{⊎_elim, inl, inr}
 use mathlib.Core.Option.{some}
 use types.Run.{OneOf}
 use denote.Enum.Declared.{tag_of}
@@ -22,6 +22,12 @@ use Rattle.event_file.specs.declared.reader.Found.TheVariants.{Record, End, Bad}
 use Rattle.event_file.specs.Answers.{shown_found}
 use Rattle.event_file.specs.Left.{Left}
 use Rattle.event_file.specs.contracts.reader.Found.{the_type}
+
+-- what is no event is the file's end or a bad record
+pub not_record : (f : Found) → ((e : Event) → f ≡ Record e → ⊥) → OneOf (1 ∷ 2 ∷ []) (tag_of the_type f)
+not_record (Record e) none = absurd (none e refl)
+not_record End none = inl refl
+not_record Bad none = inr refl
 
 -- before the first event of an accepted file
 pub all_left : (bytes : List ℕ) → file_refusal bytes ≡ 0 → Left bytes 5 (events_of bytes)
