@@ -38,6 +38,7 @@ pub(crate) fn intervals_at(input: &[u8]) -> usize
     1 + 5 * (byte_at(input, 0) as usize)
 }
 
+#[tactic(auto, unfolding(crate::specs::Sheet::input_refusal))]
 pub(crate) fn input_refusal(input: &[u8]) -> u8
     ensures { result ≡ input_refusal input.now }
 {

@@ -83,6 +83,7 @@ pub(crate) fn smallest_gap(rows: [Row; Table::ROOM], n: usize) -> u16
 }
 
 // "24, overlap; 25, gap": what is wrong with a table whose rows are not too many and none of which is bad.
+#[tactic(auto, unfolding(crate::specs::Ranking::fault))]
 pub(crate) fn overlap_or_gap(rows: [Row; Table::ROOM], n: usize) -> Answer
     requires { (n ≤ 255) × (length (take n rows) ≤ 64) × (any_bad (take n rows) ≡ false) }
     ensures { result ≡ fault (take n rows) }
