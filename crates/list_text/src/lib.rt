@@ -18,13 +18,13 @@ pub struct Filed {
     pub fault: u8,
 }
 
-// One byte more than a list may have: `enough-of-a-list`, proofs/Enough.antt.
+// One byte more than a list may have: `enough_of_a_list`, proofs/Enough.antt.
 const LIST: usize = 1048577;
 
 // The most bytes of a file.
 pub const MOST: usize = 65536;
 
-// Room for every sentence: `sentence-fits`, proofs/Sentences.antt.
+// Room for every sentence: `sentence_fits`, proofs/Sentences.antt.
 pub const SENTENCE: usize = 64;
 
 fn list_zeros() -> [u8; LIST]

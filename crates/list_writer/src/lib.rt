@@ -9,11 +9,11 @@ mod writer;
 use event_file::reader::file_refusal;
 use text::{INPUT, file_buffer, put_file_line};
 
-// Room for the text of every file: `text-fits`, proofs/Room.antt.
+// Room for the text of every file: `text_fits`, proofs/Room.antt.
 pub const ROOM: usize = 1048576;
 
 // A buffer for a file that is read. Of an input of any length it holds enough: the text of that much is the text of the whole
-// (`enough-of-a-file`, proofs/Enough.antt).
+// (`enough_of_a_file`, proofs/Enough.antt).
 pub fn file_input() -> [u8; INPUT]
     ensures { (b : List ℕ) → file_text (take (length result) b) ≡ file_text b }
 {

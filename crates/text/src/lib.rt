@@ -107,7 +107,7 @@ pub fn put_file_line(out: &mut [u8], at: usize, refusal: u8) -> usize
     put_byte(out, end, b'\n')
 }
 
-// One byte more than a file may have: `enough-for-key` and its like, proofs/Enough.antt.
+// One byte more than a file may have: `enough_for_key` and its like, proofs/Enough.antt.
 pub const INPUT: usize = 65537;
 
 // A buffer for a file that is read, and for one byte behind it: what is too long is seen to be.
