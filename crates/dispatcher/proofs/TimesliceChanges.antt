@@ -246,12 +246,12 @@ module _ (m : Machine) (n t count units k : ℕ) (run : m.running ≡ Runs n t c
 
 -- a refill: the whole quantum is left, in Queue
 module _ (m : Machine) (k t : ℕ) (at : k ≡ t) where
-  abbrev pub refilledTo : Machine
-  refilledTo =
+  abbrev pub refilled_to : Machine
+  refilled_to =
       let x = get_or m.timeslices k free_timeslice in
       moved_to m.threads (set m.timeslices k (timed m.timeslices k t x.quantum Queue at)) (sides_of m) m
 
-  pub refill_shown : shown refilledTo ≡ with_refilled t (shown m)
+  pub refill_shown : shown refilled_to ≡ with_refilled t (shown m)
   unfolding with_refilled
   refill_shown =
       let slices = refills m.timeslices k t Queue at in

@@ -29,10 +29,10 @@ module _ (text : List ℕ) (at end : ℕ) (inside : at ≤ length text) (ends : 
   pub line_within : (at ≤ end) × (end ≤ length text)
   line_within = (omega arith, omega (arith, scan_within (stops LineFeed) text at inside))
 
-  abbrev pub theLine : List ℕ
-  theLine = take (end - at) (drop at text)
+  abbrev pub the_line : List ℕ
+  the_line = take (end - at) (drop at text)
 
-  pub lines_split : parts line_feed (drop at text) ≡ theLine ∷ later line_feed (drop at text)
+  pub lines_split : parts line_feed (drop at text) ≡ the_line ∷ later line_feed (drop at text)
   lines_split =
       parts_first line_feed (drop at text)
       ∙ ap (λ (n : ℕ). take n (drop at text) ∷ later line_feed (drop at text)) (sym size)
@@ -89,7 +89,7 @@ counting_begins text = record { inside = omega arith; few = omega arith; small =
 
 module _ {text : List ℕ} {at line filled end : ℕ} (c : Counting text at line filled)
     (ends : end ≡ at + end_of (stops LineFeed) (drop at text)) {read-line : Line}
-    (reads : read-line ≡ line_of (theLine text at end c.inside ends))
+    (reads : read-line ≡ line_of (the_line text at end c.inside ends))
   where
     here : {wrong : Bool} {fault after : ℕ} → Counts filled read-line wrong fault after
         → cond wrong (record { bytes = 0; line = line; fault = fault })
@@ -145,7 +145,7 @@ pub filling_begins : (text before : List ℕ) (from : ℕ) → Filling text befo
 filling_begins text before from = record { records = []; put = put_none before from; whole = refl; inside = omega arith }
 
 module _ {text before now after : List ℕ} {from at to end next : ℕ} (f : Filling text before now from at to)
-    (ends : end ≡ at + end_of (stops LineFeed) (drop at text)) {line : Line} (reads : line ≡ line_of (theLine text at end f.inside ends))
+    (ends : end ≡ at + end_of (stops LineFeed) (drop at text)) {line : Line} (reads : line ≡ line_of (the_line text at end f.inside ends))
     (p : Put now after to next (line_record line)) where
   abbrev so_far : List ℕ
   so_far = f.records ++ line_record line

@@ -16,7 +16,7 @@ use Rattle.rules.specs.Sound.{sound}
 use Rattle.rules.specs.Events.{Answered, offer}
 use Rattle.rules.specs.Lists.{run, after}
 use Rattle.rules.specs.EventFile.{file_of, file_refusal, events_of}
-use Rattle.rules.specs.Key.{bytes, lines as keyLines, file_line, key_after, key, plain_key}
+use Rattle.rules.specs.Key.{bytes, lines as key_lines, file_line, key_after, key, plain_key}
 use Rattle.rules.proofs.Computing.{computing}
 
 -- a line of the key: all columns but the last, and the last
@@ -101,7 +101,7 @@ last_machine [] s = s
 last_machine (a ∷ rest) s = last_machine rest a.state
 
 abbrev key_of : ℕ → List Answered → List ℕ
-key_of zero answers = keyLines 1 answers
+key_of zero answers = key_lines 1 answers
 key_of (suc number) answers = file_line (suc number)
 
 unfoldable result_of : Row → List Answered → Result

@@ -1,6 +1,6 @@
 // Document 02, [8]: "Neighbours that form no such list make the machine unsound."
 ghost use Rattle.std.specs.Prelude.{◌≡◌, ◌&&◌, eqb};
-ghost use Rattle.neighbours.specs.Sides.{sides, sentinel, unlisted, neighbour as neighbourOf};
+ghost use Rattle.neighbours.specs.Sides.{sides, sentinel, unlisted, neighbour as neighbour_of};
 ghost use Rattle.neighbours.specs.Forming.{leads_back};
 
 use crate::sides::neighbour;
@@ -32,7 +32,7 @@ pub fn leads_back<'a>(before: &'a [u8; 129], after: &'a [u8; 129], live: u8) -> 
 
 // What stands in the entries of a timeslice that is not listed.
 pub fn entries_free<'a>(before: &'a [u8; 129], after: &'a [u8; 129], t: u8) -> bool
-    ensures { result ≡ (eqb (neighbourOf before.now t) unlisted && eqb (neighbourOf after.now t) unlisted) }
+    ensures { result ≡ (eqb (neighbour_of before.now t) unlisted && eqb (neighbour_of after.now t) unlisted) }
 {
     if neighbour(before, t) != 255 {
         return false;

@@ -1,13 +1,13 @@
 // One entry of a side.
 ghost use Rattle.std.specs.Prelude.{◌≡◌};
-ghost use Rattle.neighbours.specs.Sides.{neighbour as neighbourOf, put as put_of};
+ghost use Rattle.neighbours.specs.Sides.{neighbour as neighbour_of, put as put_of};
 
 use tables::numbers::index;
 
 // Past the list's own entry there is none. A loop that keeps the index of an entry, and not its number, need not widen a byte at each step
 // before it can read the next.
 pub fn neighbour_at(side: &[u8; 129], at: usize) -> u8
-    ensures { result ≡ neighbourOf side.now at }
+    ensures { result ≡ neighbour_of side.now at }
 {
     if at < 129 {
         return side[at];
@@ -16,7 +16,7 @@ pub fn neighbour_at(side: &[u8; 129], at: usize) -> u8
 }
 
 pub fn neighbour(side: &[u8; 129], t: u8) -> u8
-    ensures { result ≡ neighbourOf side.now t }
+    ensures { result ≡ neighbour_of side.now t }
 {
     let at = index(t);
     neighbour_at(side, at)

@@ -1,6 +1,6 @@
 // Document 01: "Of two timeslices the higher priority stands above; among equals, the earlier in turn order."
 ghost use Rattle.std.specs.Prelude.{◌≡◌, ◌&&◌, ◌||◌, ltb, eqb};
-ghost use Rattle.rules.specs.Order.{earlier as earlierOf};
+ghost use Rattle.rules.specs.Order.{earlier as earlier_of};
 ghost use Rattle.neighbours.specs.Reading.{turns_read};
 
 use crate::sides::neighbour_at;
@@ -8,7 +8,7 @@ use tables::numbers::{entries, index};
 
 // One comes before the other in turn order.
 pub(crate) fn earlier(after: &[u8; 129], live: u8, a: u8, b: u8) -> bool
-    ensures { result ≡ earlierOf (turns_read after.now live) a b }
+    ensures { result ≡ earlier_of (turns_read after.now live) a b }
 {
     let mut left = entries(live);
     let mut at: usize = 128;
@@ -28,7 +28,7 @@ pub(crate) fn earlier(after: &[u8; 129], live: u8, a: u8, b: u8) -> bool
 
 // Of two timeslices with these priorities.
 pub fn stands_above(after: &[u8; 129], live: u8, a: u8, high: u8, b: u8, low: u8) -> bool
-    ensures { result ≡ (ltb low high || eqb high low && earlierOf (turns_read after.now live) a b) }
+    ensures { result ≡ (ltb low high || eqb high low && earlier_of (turns_read after.now live) a b) }
 {
     if low < high {
         return true;

@@ -1,7 +1,7 @@
 // Document 01, "The plain machine": "of all live timeslices whose chain's end lets them run, it takes the topmost."
 ghost use Rattle.std.specs.Prelude.{◌≡◌, take};
-ghost use Rattle.rules.specs.Order.{topmost, upper as upperOf};
-ghost use Rattle.rules.specs.Walk.{walk as walk_of, lets as letsOf, may_run};
+ghost use Rattle.rules.specs.Order.{topmost, upper as upper_of};
+ghost use Rattle.rules.specs.Walk.{walk as walk_of, lets as lets_of, may_run};
 ghost use Rattle.rules.specs.Plain.{judge};
 ghost use Rattle.tables.specs.Sets.{sought_of};
 ghost use Rattle.tables.specs.Verdicts.{verdict_of};
@@ -28,7 +28,7 @@ pub(crate) fn chain_from(threads: [Thread; 128], n: u8) -> Chain
 
 // What the end of a chain says lets its timeslice run.
 pub(crate) fn lets(said: Verdict) -> bool
-    ensures { result ≡ letsOf (verdict_of said) }
+    ensures { result ≡ lets_of (verdict_of said) }
 {
     match said {
         Verdict::Runs => true,
@@ -50,7 +50,7 @@ pub(crate) fn may_run(threads: [Thread; 128], slices: [Slice; 128], t: u8) -> bo
 
 // Of a timeslice and the topmost of those later in turn order, the one that stands above.
 pub(crate) fn upper(slices: [Slice; 128], t: u8, later: Sought) -> Sought
-    ensures { sought_of result ≡ upperOf slices t (sought_of later) }
+    ensures { sought_of result ≡ upper_of slices t (sought_of later) }
 {
     match later {
         Sought::Nothing => Sought::At(t),

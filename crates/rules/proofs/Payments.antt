@@ -170,14 +170,14 @@ bounded_append (p ∷ ps) qs a b = (a.0, bounded_append ps qs a.1 b)
 bounded_charge : (s : State) → Sound s → (units : ℕ) → refusal (Charge units) (forget s) ≡ 0 → AllBounded (paid_by s.running units)
 bounded_charge s x units e = by s.running refl (passes (nothing_runs s.running) 4 _ e)
   where
-    tooMuch : Running → Bool
-    tooMuch r = eqb units 0 || ltb (left_at s.slices (current_timeslice r)) units
+    too_much : Running → Bool
+    too_much r = eqb units 0 || ltb (left_at s.slices (current_timeslice r)) units
 
-    by : (r : Running) → s.running ≡ r → (nothing_runs r ≡ false) × ((tooMuch r gives 11 else 0) ≡ 0) → AllBounded (paid_by r units)
+    by : (r : Running) → s.running ≡ r → (nothing_runs r ≡ false) × ((too_much r gives 11 else 0) ≡ 0) → AllBounded (paid_by r units)
     by Nothing q p = tt
     by (Runs n t count) q p =
         let a = active s x n t count q in
-        let fitting = (passes (tooMuch (Runs n t count)) 10 0 p.1).0 in
+        let fitting = (passes (too_much (Runs n t count)) 10 0 p.1).0 in
         let some = eqb-false units 0 (or_false_left (eqb units 0) _ fitting) in
         let within = ltb-false (left_at s.slices t) units (or_false_right (eqb units 0) _ fitting) in
         let r = range x.mid t a.listed in

@@ -1,7 +1,7 @@
 -- Document 01, "Event file and key": the key that the key program prints.
 use Rattle.std.specs.Prelude.{ℕ, zero, suc, ◌+◌, ◌/◌, ◌%◌, List, [], ◌∷◌, ◌++◌, Bool, true, false, cond, not, ◌&&◌, ◌||◌, ltb, eqb}
 use Prim.Native.Char.{code}
-use Prim.Native.String.{String, [] as noText, ◌∷◌ as ◌then◌}
+use Prim.Native.String.{String, [] as no_text, ◌∷◌ as ◌then◌}
 use Rattle.rules.specs.declared.Running.{Running}
 use Rattle.rules.specs.declared.Running.TheVariants.{Nothing, Runs}
 use Rattle.rules.specs.State.{empty}
@@ -12,7 +12,7 @@ use Rattle.rules.specs.EventFile.{file_refusal, events_of}
 
 -- a text as its bytes
 unfoldable pub bytes : String → List ℕ
-bytes noText = []
+bytes no_text = []
 bytes (c then s) = code c ∷ bytes s
 
 -- a number in decimal digits; the first argument bounds how many there are, the last says whether one is left

@@ -1,6 +1,6 @@
 // Tests joined, for the clauses of document 01, "A sound machine".
 ghost use Rattle.std.specs.Prelude.{◌≡◌, ◌&&◌, ◌||◌};
-ghost use Rattle.rules.specs.Tests.{agree as agreeOf, implies as impliesOf};
+ghost use Rattle.rules.specs.Tests.{agree as agree_of, implies as implies_of};
 
 pub fn both(a: bool, b: bool) -> bool
     ensures { result ≡ (a && b) }
@@ -21,7 +21,7 @@ pub fn either(a: bool, b: bool) -> bool
 }
 
 pub(crate) fn agree(a: bool, b: bool) -> bool
-    ensures { result ≡ agreeOf a b }
+    ensures { result ≡ agree_of a b }
 {
     if a {
         return b;
@@ -30,7 +30,7 @@ pub(crate) fn agree(a: bool, b: bool) -> bool
 }
 
 pub(crate) fn implies(a: bool, b: bool) -> bool
-    ensures { result ≡ impliesOf a b }
+    ensures { result ≡ implies_of a b }
 {
     if a {
         return b;

@@ -1,6 +1,6 @@
 // Document 01, "A sound machine", and document 02, [2]: every timeslice has a true place, Queue, Behind, On, Stalled or Spent.
 ghost use Rattle.std.specs.Prelude.{◌≡◌, map, ◌&&◌};
-ghost use Rattle.rules.specs.Tests.{member as memberOf};
+ghost use Rattle.rules.specs.Tests.{member as member_of};
 ghost use Rattle.rules.specs.State.{place_at};
 ghost use Rattle.rules.specs.Release.{in_queue};
 ghost use Rattle.rules.specs.Order.{stands_above};
@@ -27,7 +27,7 @@ pub(crate) fn behind_good(
     q: u8,
     t: u8,
 ) -> bool
-    ensures { result ≡ (memberOf q (turns_read after.now live) && in_queue (place_at (map place_of timeslices) q)
+    ensures { result ≡ (member_of q (turns_read after.now live) && in_queue (place_at (map place_of timeslices) q)
         && stands_above (map slice_of timeslices) (turns_read after.now live) q t) }
 {
     let x = timeslice_at(timeslices, q);

@@ -1,6 +1,6 @@
 // The places as numbers, the sets that a place names, and which timeslices an array of the turn order lists.
 ghost use Rattle.std.specs.Prelude.{◌≡◌, take, drop};
-ghost use Rattle.rules.specs.Tests.{member as memberOf};
+ghost use Rattle.rules.specs.Tests.{member as member_of};
 ghost use Rattle.tables.specs.Sets.{set_of, kind_of, number_of};
 
 use crate::numbers::entries;
@@ -50,7 +50,7 @@ pub fn in_set(place: Place, set: Place) -> bool
 
 // The turn order lists this timeslice, at that entry or later.
 pub fn listed_from(order: [u8; 128], live: u8, from: usize, t: u8) -> bool
-    ensures { result ≡ memberOf t (drop from (take live order)) }
+    ensures { result ≡ member_of t (drop from (take live order)) }
 {
     let n = entries(live);
     let mut i = from;
@@ -65,7 +65,7 @@ pub fn listed_from(order: [u8; 128], live: u8, from: usize, t: u8) -> bool
 }
 
 pub fn member(order: [u8; 128], live: u8, t: u8) -> bool
-    ensures { result ≡ memberOf t (take live order) }
+    ensures { result ≡ member_of t (take live order) }
 {
     listed_from(order, live, 0, t)
 }

@@ -1,7 +1,7 @@
 // Document 01, "Events" and "Release and choice", and document 02, [3]: what they do to the threads.
 ghost use Rattle.std.specs.Prelude.{◌≡◌};
-ghost use Rattle.rules.specs.Threads.{set_hold, set_service, donate, replied as repliedOf, free_caller, aborted as abortedOf, orphan_server};
-ghost use Rattle.rules.specs.Threads.{cut_from, links_cut, removed as removedOf, starts_as, created as createdOf};
+ghost use Rattle.rules.specs.Threads.{set_hold, set_service, donate, replied as replied_of, free_caller, aborted as aborted_of, orphan_server};
+ghost use Rattle.rules.specs.Threads.{cut_from, links_cut, removed as removed_of, starts_as, created as created_of};
 
 use crate::numbers::index;
 use crate::records::is_linked_to;
@@ -42,7 +42,7 @@ pub(crate) fn starts_as(role: Role) -> Hold
 }
 
 pub fn created(mut threads: [Thread; 128], n: u8, role: Role) -> [Thread; 128]
-    ensures { result ≡ createdOf n role threads }
+    ensures { result ≡ created_of n role threads }
 {
     let k = index(n);
     if k < 128 {
@@ -80,7 +80,7 @@ pub fn freed(threads: [Thread; 128], service: Service) -> [Thread; 128]
 
 // The server is Idle and serves nobody.
 pub fn replied(threads: [Thread; 128], server: u8) -> [Thread; 128]
-    ensures { result ≡ repliedOf server threads }
+    ensures { result ≡ replied_of server threads }
 {
     let k = index(server);
     let mut service = Service::Nobody;
@@ -107,7 +107,7 @@ pub fn orphaned(threads: [Thread; 128], hold: Hold) -> [Thread; 128]
 }
 
 pub fn aborted(threads: [Thread; 128], n: u8) -> [Thread; 128]
-    ensures { result ≡ abortedOf n threads }
+    ensures { result ≡ aborted_of n threads }
 {
     let k = index(n);
     let mut hold = Hold::Ready;
@@ -148,7 +148,7 @@ pub fn links_cut(mut threads: [Thread; 128], n: u8) -> [Thread; 128]
 
 // All links into the thread are cut, the server that it was Calling is an orphan, and its record is free.
 pub fn removed(threads: [Thread; 128], n: u8) -> [Thread; 128]
-    ensures { result ≡ removedOf n threads }
+    ensures { result ≡ removed_of n threads }
 {
     let k = index(n);
     let mut hold = Hold::Ready;

@@ -4,7 +4,7 @@ ghost use Rattle.std.specs.Prelude.{◌≡◌, ◌≤◌, ◌<◌, get_or};
 ghost use Rattle.tables.specs.Sets.{sought_of};
 ghost use Rattle.tables.specs.Turning.{entries_of};
 ghost use Rattle.neighbours.specs.Reading.{turns_read};
-ghost use Rattle.timeslices.specs.Codes.{code_of, height_of, turn_of, weight as weightOf, higher as higherOf, highest as highestOf};
+ghost use Rattle.timeslices.specs.Codes.{code_of, height_of, turn_of, weight as weight_of, higher as higher_of, highest as highest_of};
 ghost use Rattle.timeslices.specs.Codes.{top_in, code_at, height_at, parked_code, released_code, Entered, Recoded, ReleasedCodes};
 
 use neighbours::sides::neighbour_at;
@@ -78,7 +78,7 @@ pub fn fill<'a>(
 
 // A height that is not in the set loses to every other.
 pub(crate) fn weight(code: u16, height: u16, set: u16) -> u16
-    ensures { result ≡ weightOf code height set }
+    ensures { result ≡ weight_of code height set }
 {
     if code == set {
         return height;
@@ -87,7 +87,7 @@ pub(crate) fn weight(code: u16, height: u16, set: u16) -> u16
 }
 
 pub(crate) fn higher(best: u16, height: u16) -> u16
-    ensures { result ≡ higherOf best height }
+    ensures { result ≡ higher_of best height }
 {
     if best < height {
         return height;
@@ -97,7 +97,7 @@ pub(crate) fn higher(best: u16, height: u16) -> u16
 
 // The highest height in a set, 0 where the set is empty.
 pub(crate) fn highest(codes: &[u16; 128], heights: &[u16; 128], live: u8, set: u16) -> u16
-    ensures { result ≡ highestOf set codes.now heights.now 0 (entries_of live) }
+    ensures { result ≡ highest_of set codes.now heights.now 0 (entries_of live) }
 {
     let mut best: u16 = 0;
     let mut i = entries(live);

@@ -6,7 +6,7 @@ ghost use Rattle.rules.specs.Refusals.{is_one};
 ghost use Rattle.tables.specs.Timeslices.{slice_of};
 ghost use Rattle.tables.specs.Sets.{sought_of};
 ghost use Rattle.neighbours.specs.Reading.{turns_read};
-ghost use Rattle.timeslices.specs.Searching.{takes, topmost_in, members_of, joined as joinedOf, ended as ended_of};
+ghost use Rattle.timeslices.specs.Searching.{takes, topmost_in, members_of, joined as joined_of, ended as ended_of};
 
 use crate::heights::code;
 use neighbours::sides::{neighbour, neighbour_at};
@@ -32,7 +32,7 @@ pub(crate) struct Found {
 
 // One more member, later in turn order: it stands above only if its priority is higher.
 pub(crate) fn joined(found: Found, t: u8, priority: u8) -> Found
-    ensures { result ≡ joinedOf found t priority }
+    ensures { result ≡ joined_of found t priority }
 {
     let least = found.least;
     let p = wide(priority);
@@ -51,7 +51,7 @@ pub(crate) fn joined(found: Found, t: u8, priority: u8) -> Found
 
 // One more timeslice, whose place has this code.
 pub(crate) fn seen(found: Found, set: u16, code: u16, t: u8, priority: u8) -> Found
-    ensures { result ≡ cond (eqb code set) (joinedOf found t priority) found }
+    ensures { result ≡ cond (eqb code set) (joined_of found t priority) found }
 {
     if code == set {
         return joined(found, t, priority);

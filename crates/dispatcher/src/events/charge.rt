@@ -3,7 +3,7 @@ ghost use Rattle.std.specs.Prelude.{◌≡◌, true, ◌≤◌, ◌<◌};
 ghost use Rattle.rules.specs.declared.Event.TheVariants.{Charge};
 ghost use Rattle.rules.specs.Events.{dispatch, settle, depletes};
 ghost use Rattle.rules.specs.State.{left_at};
-ghost use Rattle.rules.specs.Tests.{member as memberOf};
+ghost use Rattle.rules.specs.Tests.{member as member_of};
 ghost use Rattle.dispatcher.specs.Choosing.{Choosable, Settled};
 ghost use Rattle.dispatcher.specs.Shown.{shown, sound_machine};
 ghost use Rattle.dispatcher.specs.Promise.{Answers};
@@ -19,7 +19,7 @@ impl Machine {
     pub(crate) fn depleted(mut self, t: u8, units: u16) -> Answered
         requires choosable { Choosable self 0 }
         requires in_range { t < 128 }
-        requires listed { memberOf t (shown self).order ≡ true }
+        requires listed { member_of t (shown self).order ≡ true }
         requires payable { units ≤ left_at (shown self).slices t }
         ensures { Settled (settle (depletes t units (shown self))) result }
     {

@@ -3,7 +3,7 @@ ghost use Rattle.std.specs.Prelude.{◌<◌, ◌≡◌, true};
 ghost use Rattle.std.proofs.Math.Option.{some};
 ghost use Rattle.rules.specs.declared.Event.TheVariants.{Remove};
 ghost use Rattle.rules.specs.State.{live_at};
-ghost use Rattle.rules.specs.Tests.{member as memberOf};
+ghost use Rattle.rules.specs.Tests.{member as member_of};
 ghost use Rattle.rules.specs.Timeslices.{own_of};
 ghost use Rattle.rules.specs.Events.{dispatch, settle, strike_out, remove};
 ghost use Rattle.dispatcher.specs.Choosing.{Choosable, Settled, Shows};
@@ -26,7 +26,7 @@ impl Machine {
     pub(crate) fn struck_out(mut self, t: u8) -> Machine
         requires choosable { Choosable self 0 }
         requires in_range { t < 128 }
-        requires listed { memberOf t (shown self).order ≡ true }
+        requires listed { member_of t (shown self).order ≡ true }
         ensures { Shows (strike_out (some t) (shown self)) result }
     {
         let k = index(t);

@@ -99,10 +99,10 @@ pub charge_handed : (s : State) → Sound s → (units : ℕ) → refusal (Charg
 unfolding charge
 charge_handed s x units e = by s.running refl (passes (nothing_runs s.running) 4 _ e)
   where
-    tooMuch : Running → Bool
-    tooMuch r = eqb units 0 || ltb (left_at s.slices (current_timeslice r)) units
+    too_much : Running → Bool
+    too_much r = eqb units 0 || ltb (left_at s.slices (current_timeslice r)) units
 
-    left-or-not : (n t count : ℕ) → s.running ≡ Runs n t count → tooMuch (Runs n t count) ≡ false
+    left-or-not : (n t count : ℕ) → s.running ≡ Runs n t count → too_much (Runs n t count) ≡ false
         → Two (eqb (left_at s.slices t) units)
         → Handed s (charge_by units s (Runs n t count)) (plain_charge units (forget s) (Runs n t count))
     left-or-not n t count q m (yes_true k) =
@@ -112,8 +112,8 @@ charge_handed s x units e = by s.running refl (passes (nothing_runs s.running) 4
         let other = eqb-false (left_at s.slices t) units k in
         rw k (spends_handed x (active s x n t count q) q units (omega arith))
 
-    by : (r : Running) → s.running ≡ r → (nothing_runs r ≡ false) × ((tooMuch r gives 11 else 0) ≡ 0)
+    by : (r : Running) → s.running ≡ r → (nothing_runs r ≡ false) × ((too_much r gives 11 else 0) ≡ 0)
         → Handed s (charge_by units s r) (plain_charge units (forget s) r)
     by Nothing q p = clash true refl p.0
     by (Runs n t count) q p =
-        left-or-not n t count q (passes (tooMuch (Runs n t count)) 10 0 p.1).0 (two (eqb (left_at s.slices t) units))
+        left-or-not n t count q (passes (too_much (Runs n t count)) 10 0 p.1).0 (two (eqb (left_at s.slices t) units))

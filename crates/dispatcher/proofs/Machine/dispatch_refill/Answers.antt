@@ -9,7 +9,7 @@ use Rattle.rules.specs.declared.Event.TheVariants.{Refill}
 use Rattle.rules.specs.Events.{refill}
 use Rattle.dispatcher.proofs.Stored.{sound_stored, stored_with, live_is, says_listed}
 use Rattle.dispatcher.proofs.Answering.{refuse, accept}
-use Rattle.dispatcher.proofs.TimesliceChanges.{left_at_lem, refilledTo, refill_shown, joined_to}
+use Rattle.dispatcher.proofs.TimesliceChanges.{left_at_lem, refilled_to, refill_shown, joined_to}
 use Rattle.dispatcher.proofs.ThreadChanges.{choosable}
 use Rattle.dispatcher.proofs.Machine.dispatch_refill.Goals as goal
 
@@ -50,5 +50,5 @@ returns c =
       eq-eqb _ _ c.if-x-ne0.false,
     ) refl)
     (refill c.args.t (shown c.args.self)) refl _
-    (joined_to c.args.t (refilledTo c.args.self c.index-k.result c.args.t c.index-k.ensures) _ _
+    (joined_to c.args.t (refilled_to c.args.self c.index-k.result c.args.t c.index-k.ensures) _ _
     (refill_shown c.args.self c.index-k.result c.args.t c.index-k.ensures) c.overtaken.ensures)

@@ -1,23 +1,10 @@
 -- The lines so far and those of the events that are left make the whole; where no event is found, none are left.
-use mathlib.Core.Path.{◌≡◌, refl, sym, ap, ◌∙◌}
-use mathlib.Core.List.{[], ◌∷◌}
+use mathlib.Core.Path.{sym, ap, ◌∙◌}
 use native.Mathlib.Omega.{arith}
-use types.Run.{OneOf}
-use denote.Enum.Declared.{tag_of}
-use borrow.Author.Rules.{rules}
-use Rattle.rules.specs.declared.Event.{Event}
-use Rattle.event_file.specs.declared.reader.Found.{Found}
-use Rattle.event_file.specs.declared.reader.Found.TheVariants.{Record, End, Bad}
-use Rattle.event_file.specs.contracts.reader.Found.{the_type}
 use Rattle.event_file.specs.Answers.{shown_found}
+use Rattle.event_file.proofs.Steps.{not_record}
 use Rattle.plain_sheet.proofs.Printing.{begin, printed, further, done}
 use Rattle.plain_sheet.proofs.lines.put_lines.Goals as goal
-
--- what is no event is one of the other two
-others : (f : Found) → ((e : Event) → f ≡ Record e → ⊥) → OneOf (1 ∷ 2 ∷ []) (tag_of the_type f)
-others (Record e) no_record = absurd (no_record e refl)
-others End no_record = search rules
-others Bad no_record = search rules
 
 pub loop-event-init : goal.loop-event-init
 loop-event-init c =
@@ -25,7 +12,7 @@ loop-event-init c =
 
 pub returns-in_default : goal.returns-in_default
 returns-in_default c =
-    done c.loop-event.invariant c.step-read.result.found (others c.step-read.result.found c.in_default.not-Record) c.step-read.ensures.0
+    done c.loop-event.invariant c.step-read.result.found (not_record c.step-read.result.found c.in_default.not-Record) c.step-read.ensures.0
 
 pub overflow_add-number : goal.overflow_add-number
 overflow_add-number c =

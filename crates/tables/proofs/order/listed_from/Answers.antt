@@ -3,7 +3,7 @@ use mathlib.Core.Path.{refl}
 use native.Mathlib.Omega.{arith}
 use borrow.Author.Tests.{eq-eqb, ne_eqb}
 use Rattle.tables.proofs.Along.{begin_at, here, next, out}
-use Rattle.rules.specs.Tests.{member as memberOf}
+use Rattle.rules.specs.Tests.{member as member_of}
 use Rattle.tables.proofs.order.listed_from.Goals as goal
 
 pub loop-i-init : goal.loop-i-init
@@ -13,7 +13,7 @@ pub bounds-order-i : goal.bounds-order-i
 bounds-order-i c = omega arith
 
 pub returns-then-t-u : goal.returns-then-t-u
-unfolding memberOf
+unfolding member_of
 returns-then-t-u c =
     rw (eq-eqb _ _ c.if-t-u.true) at (here _ _ _ _ _ c.well_formed.0.1.0.1 c.loop-i.invariant
     c.loop-i-test.true)
@@ -25,12 +25,12 @@ pub loop-i-smaller : goal.loop-i-smaller
 loop-i-smaller c = omega arith
 
 pub loop-i-preserved : goal.loop-i-preserved
-unfolding memberOf
+unfolding member_of
 loop-i-preserved c =
     next _ _ _ _ _ c.well_formed.0.1.0.1 c.loop-i.invariant c.loop-i-test.true
     (rw (ne_eqb _ _ c.if-t-u.false) refl)
 
 pub returns : goal.returns
-unfolding memberOf
+unfolding member_of
 returns c =
     out _ _ _ _ _ c.well_formed.0.1.0.1 c.loop-i.invariant c.loop-i-test.false
