@@ -37,7 +37,8 @@ module _ (b : List ℕ) (control : ℕ) where
   -- a change of the pending lines, which depends on these alone, made on both
   both_pending : (f : ℕ → ℕ → Bool) → with_pending (f (get_or other 1 0)) other ≡ set (with_pending (f (get_or b 1 0)) b) 0 control
   both_pending f =
-      ap (λ (byte : ℕ). set other 1 (byte_of (f byte))) pending_byte ∙ set_comm b 0 1 control (byte_of (f (get_or b 1 0))) (λ e. omega arith)
+      ap (λ (byte : ℕ). set other 1 (byte_of (f byte))) pending_byte
+      ∙ set_comm b 0 1 control (byte_of (f (get_or b 1 0))) (λ e. omega arith)
 
   -- a write and a raise
   both_changed : (k : ℕ) (changed : List ℕ) → changed_after k (set changed 0 control) other

@@ -95,4 +95,5 @@ follows u zero from enough none_below = absurd (omega arith)
 follows (stops {b = b} {after = after} {m = m} {r = r} polls given) (suc n) from enough none_below =
     stopping b after m r polls given n (step (sound_machine m) b (shown m))
 follows (goes_on {b = b} {next = next} {after = after} {lines = lines} {m = m} {r = r} {last = last} polls z rest) (suc n) from few below =
-    going_on b next lines after m r last polls z n from few below (step (sound_machine m) b (shown m)) (follows rest n)
+    going_on b next lines after m r last polls z n from few below (step (sound_machine m) b (shown m))
+    (follows {b = next} {lines = lines} {m = r.machine} rest n)

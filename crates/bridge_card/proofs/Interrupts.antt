@@ -78,7 +78,8 @@ poll_sound b after m r polls = polled_sound b after m r polls
 -- next poll of this machine answers the same
 pub held_back : (isSound : Bool) (b : List ℕ) (s : State) (line number : ℕ) → length b ≡ 12 → Takes b line
     → wake_of isSound b s line ≡ refused (suc number) s → (above : List ℕ) → Each (λ other. line < other) above
-    → (poll_if isSound (raised_all b above) s ≡ unchanged (suc number) (raised_all b above) s) × (is_pending (raised_all b above) line ≡ true)
+    → (poll_if isSound (raised_all b above) s ≡ unchanged (suc number) (raised_all b above) s)
+    × (is_pending (raised_all b above) line ≡ true)
 unfolding raised_all
 held_back isSound b s line number twelve t w [] higher =
     (polled_line isSound b s line twelve (found_takes b line t) ∙ ap (woken b line) w, t.pending)

@@ -54,26 +54,26 @@ module _ (b : List ℕ) where
     is-raise line e = e
 
   -- not refused with 20
-  is_block : (rest : ℕ) → (not (is_block b) gives 20 else rest) ≡ 0 → (length b ≡ 12) × (rest ≡ 0)
-  is_block rest e =
+  block_first : (rest : ℕ) → (not (is_block b) gives 20 else rest) ≡ 0 → (length b ≡ 12) × (rest ≡ 0)
+  block_first rest e =
       let first = passes (not (is_block b)) 19 rest e in
       (eqb-true (length b) 12 (not-false (is_block b) first.0), first.1)
 
   pub read_accepted : (register : ℕ) → read_refusal b register ≡ 0 → (length b ≡ 12) × (register ≤ 11)
   unfolding read_refusal
   read_accepted register e =
-      let block = is_block (ltb 11 register gives 21 else 0) e in
+      let block = block_first (ltb 11 register gives 21 else 0) e in
       (block.0, ltb-false 11 register (passes (ltb 11 register) 20 0 block.1).0)
 
   pub write_accepted : (register : ℕ) → write_refusal b register ≡ 0 → (length b ≡ 12) × (register ≤ 11) × (register ≡ 3 → ⊥)
   unfolding write_refusal
   write_accepted register e =
-      let block = is_block (ltb 11 register || eqb register 3 gives 21 else 0) e in
+      let block = block_first (ltb 11 register || eqb register 3 gives 21 else 0) e in
       let may = or_false_both (ltb 11 register) (eqb register 3) (passes (ltb 11 register || eqb register 3) 20 0 block.1).0 in
       (block.0, ltb-false 11 register may.0, eqb-false register 3 may.1)
 
   pub raise_accepted : (line : ℕ) → raise_refusal b line ≡ 0 → (length b ≡ 12) × (line ≤ 7)
   unfolding raise_refusal
   raise_accepted line e =
-      let block = is_block (ltb 7 line gives 21 else 0) e in
+      let block = block_first (ltb 7 line gives 21 else 0) e in
       (block.0, ltb-false 7 line (passes (ltb 7 line) 20 0 block.1).0)

@@ -4,7 +4,6 @@ use native.Mathlib.Omega.{arith}
 use mathlib.Core.Path.{◌≡◌, refl, sym, ap, ◌∙◌, subst}
 use mathlib.Core.List.{List, ◌∷◌, ◌++◌, append_assoc}
 use lib.ListN.{length}
-use Rattle.rules.specs.Events as events
 use Rattle.rules.specs.EventFile.{Bytes, or_none, file_refusal, events_of}
 use Rattle.rules.specs.Key.{decimal, line}
 use Rattle.event_file.specs.Left.{events_at, Left}

@@ -15,7 +15,7 @@ use Rattle.rules.specs.declared.Event.TheVariants.{Wake}
 use Rattle.rules.specs.State.{State}
 use Rattle.rules.specs.Sound.{sound}
 use Rattle.rules.specs.Events.{Answered, refused, offer_if, offer}
-use Rattle.rules.specs.Lists.{Ranged, AllRanged, run, after}
+use Rattle.rules.specs.Lists.{Ranged, AllRanged, run}
 use Rattle.rules.specs.EventFile.{Bytes}
 use Rattle.rules.proofs.Basics.Views.{Two, yes_true, no_false, two, Same, equal, different, same}
 use Rattle.rules.proofs.Bounds.{most, offer_most, run_narrow}

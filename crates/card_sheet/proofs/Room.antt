@@ -6,7 +6,7 @@ use mathlib.Core.Path.{◌≡◌, refl}
 use mathlib.Core.List.{List, [], ◌∷◌}
 use lib.ListN.{length, get_or, take, drop, length-append}
 use Rattle.rules.specs.EventFile.{Bytes, events_of}
-use Rattle.rules.specs.Key.{bytes, line, file_line}
+use Rattle.rules.specs.Key.{bytes, file_line}
 use Rattle.rules.proofs.Bounds.{runs_narrow}
 use Rattle.rules.proofs.Demands.{empty_sound}
 use Rattle.rules.proofs.Soundness.Places.{sound_of}

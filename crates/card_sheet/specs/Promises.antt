@@ -4,7 +4,7 @@ use Rattle.event_file.specs.Left.{events_at, Left}
 use Rattle.dispatcher.specs.declared.Machine.{Machine}
 use Rattle.dispatcher.specs.Shown.{shown, sound_machine}
 use Rattle.card_sheet.specs.declared.commands.Obeyed.{Obeyed}
-use Rattle.card_sheet.specs.Sheet.{Stand, Done, done}
+use Rattle.card_sheet.specs.Sheet.{Stand, Done}
 
 -- what the code holds between two commands
 abbrev pub stand_of : List ℕ → List ℕ → ℕ → Machine → Stand

@@ -22,10 +22,10 @@ pub struct Command {
     pub b: u8,
 }
 
-// Up to 1,022 bytes before the file, and one byte more than a file may have: `enough-for-card`, proofs/Room.antt.
+// Up to 1,022 bytes before the file, and one byte more than a file may have: `enough_for_card`, proofs/Room.antt.
 pub const INPUT: usize = 66559;
 
-// Room for what is printed of every input: `card-fits`, proofs/Room.antt.
+// Room for what is printed of every input: `card_fits`, proofs/Room.antt.
 pub const ROOM: usize = 269790;
 
 fn zeros() -> [u8; INPUT]
