@@ -32,7 +32,8 @@ all_ranged (Happens e ∷ steps) s f = (f.0, all_ranged steps s f.1)
 all_ranged (OrdersAbort n number ∷ steps) s f = all_ranged steps (give_abort s n number).store f
 all_ranged (OrdersWithdraw n number ∷ steps) s f = all_ranged steps (give_withdraw s n number).store f
 all_ranged (TakesOrders ∷ steps) s f =
-    ranged_both (abort_events (held_aborts s)) (written_out steps empty_store) (aborts_ranged (held_aborts s)) (all_ranged steps empty_store f)
+    let aborts = held_aborts s in
+    ranged_both (abort_events aborts) (written_out steps empty_store) (aborts_ranged aborts) (all_ranged steps empty_store f)
 
 -- what steps leave, by the definitions
 record Leaves (m : Machine) (s : Store) (steps : List Step) (os : List Outcome) : Type 0 where

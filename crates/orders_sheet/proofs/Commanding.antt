@@ -63,7 +63,8 @@ command_none input out {file} {store} {m} {left} narrow accepted is-file no-orde
     let shows = shows_empty m is-empty in
     let stand : stand_of store file 5 m ≡ at_first input =
     λ i. record { store = no-order i; state = shows i; events = events_at 5 (is-file i) } in
-    let whole : command_lines 1 (commands_from input 1 left) (stand_of store file 5 m) ≡ command_lines 1 (commands_in input) (at_first input) =
+    let whole : command_lines 1 (commands_from input 1 left) (stand_of store file 5 m)
+    ≡ command_lines 1 (commands_in input) (at_first input) =
     λ i. command_lines 1 (commands_from input 1 (count i)) (stand i) in
     record {
       inside = omega (arith, count, narrow 0);

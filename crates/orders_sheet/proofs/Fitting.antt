@@ -1,17 +1,15 @@
 -- Whatever the commands are, the machine stays sound, and the columns of a command's line are narrow.
 use Prim.Native.Nat.{ℕ, zero, suc, ◌≤◌, ◌<◌}
 use native.Mathlib.Omega.{arith}
-use mathlib.Core.Path.{◌≡◌, refl, sym, ap, ◌∙◌}
-use mathlib.Core.List.{List, [], ◌∷◌}
-use mathlib.Core.Bool.{Bool, true, false, cond, ◌||◌}
+use mathlib.Core.Path.{◌≡◌, ◌∙◌}
+use mathlib.Core.Bool.{Bool, true, false, cond}
 use lib.Dec.{ltb, eqb}
 use lib.ListN.{length, length-set, length-replicate}
-use Rattle.rules.specs.State.{State, limit}
+use Rattle.rules.specs.State.{limit}
 use Rattle.rules.specs.Sound.{sound}
 use Rattle.rules.specs.Lists.{AllRanged}
 use Rattle.rules.proofs.Bounds.{most}
 use Rattle.replay.proofs.Within.{run_within}
-use Rattle.abort_orders.specs.declared.Store.{Store}
 use Rattle.abort_orders.specs.declared.Order.{Order}
 use Rattle.abort_orders.specs.declared.Order.TheVariants.{Abort, Withdraw}
 use Rattle.abort_orders.specs.Orders.{free_slot, order_at, not_above, order_refusal, given_after, give_abort, give_withdraw, held_aborts}

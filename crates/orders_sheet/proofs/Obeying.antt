@@ -4,8 +4,6 @@ use mathlib.Core.Path.{◌≡◌, refl, sym, ap, ◌∙◌, subst}
 use mathlib.Core.List.{List}
 use mathlib.Core.Bool.{Bool}
 use borrow.Author.Tests.{eq-eqb, ne_eqb}
-use Rattle.rules.specs.Sound.{sound}
-use Rattle.event_file.specs.Left.{events_at, Left}
 use Rattle.dispatcher.specs.declared.Machine.{Machine}
 use Rattle.dispatcher.specs.Shown.{shown}
 use Rattle.dispatcher.proofs.Stored.{sound_shown}
@@ -19,7 +17,6 @@ use Rattle.abort_orders.specs.Orders.{give_abort, give_withdraw, take_if, take_o
 use Rattle.abort_orders.specs.Promises.{taken_of, Takes}
 use Rattle.abort_orders.proofs.Taking.{takes_all}
 use Rattle.orders_sheet.specs.declared.Command.{Command}
-use Rattle.orders_sheet.specs.declared.commands.Obeyed.{Obeyed}
 use Rattle.orders_sheet.specs.Sheet.{Stand, Done, after_given, after_take, after_events, done}
 use Rattle.orders_sheet.specs.Promises.{stand_of, Obeys}
 

@@ -23,10 +23,10 @@ pub struct Command {
     pub number: u32,
 }
 
-// Up to 1,531 bytes before the file, and one byte more than a file may have: `enough-for-orders`, proofs/Room.antt.
+// Up to 1,531 bytes before the file, and one byte more than a file may have: `enough_for_orders`, proofs/Room.antt.
 pub const INPUT: usize = 67068;
 
-// Room for what is printed of every input: `orders-fit`, proofs/Room.antt.
+// Room for what is printed of every input: `orders_fit`, proofs/Room.antt.
 pub const ROOM: usize = 8670;
 
 fn zeros() -> [u8; INPUT]
