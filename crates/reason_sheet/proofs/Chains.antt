@@ -63,4 +63,6 @@ module _ (left : ℕ) (ts : List Thread) (n : ℕ) (some_left : 0 < left) where
   unfolding spaced
   line_goes_on {h} e one {next} is =
       ap spaced
-      (over_is e ∙ over_one (threads_from (left - 1) ts) h one ∙ ap (threads_from (left - 1) ts) (sym is) ∙ threads_later (left - 1) ts next)
+      (over_is e ∙ over_one (threads_from (left - 1) ts) h one
+      ∙ ap (threads_from (left - 1) ts) (sym is)
+      ∙ threads_later (left - 1) ts next)

@@ -36,7 +36,8 @@ pub record Going (file : List ℕ) (number offset left : ℕ) (m : Machine) : Ty
   pub counted : length ahead.events + number ≡ length (events_of file) + left
 
 -- before the first event
-pub begin : (file : List ℕ) (number : ℕ) (m : Machine) → m ≡ empty_machine → Bytes file → file_refusal file ≡ 0 → Going file number 5 number m
+pub begin : (file : List ℕ) (number : ℕ) (m : Machine) → m ≡ empty_machine → Bytes file → file_refusal file ≡ 0
+    → Going file number 5 number m
 unfolding machine_after begins
 begin file number m e bytes h =
     record {

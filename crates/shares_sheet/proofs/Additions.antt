@@ -4,15 +4,12 @@ use Prim.Native.Nat.{ℕ, zero, suc, ◌+◌, ◌<◌}
 use native.Mathlib.Omega.{arith}
 use mathlib.Core.Path.{◌≡◌, refl, ◌∙◌}
 use mathlib.Core.List.{List, [], ◌∷◌}
-use types.Run.{OneOf, miss}
-use denote.Enum.Declared.{tag_of}
 use lib.ListN.{length, get_or, set, length-set}
 use lib.Seq.{get_or-set_same, get_or-set_other}
 use Rattle.rules.specs.declared.Event.{Event}
 use Rattle.rules.specs.declared.Event.TheVariants.{Charge}
 use Rattle.rules.specs.declared.Running.{Running}
 use Rattle.rules.specs.declared.Running.TheVariants.{Nothing, Runs}
-use Rattle.rules.specs.contracts.Event.{the_type}
 use Rattle.rules.specs.Shares.{Payment, paid, units_of, total}
 use Rattle.rules.proofs.Basics.Views.{Same, equal, different, same}
 use Rattle.rules.proofs.Basics.Members.{member_here}
@@ -27,10 +24,6 @@ added_none units = record { size = refl; each = λ t. omega arith; sum = refl }
 nothing_paid : (units : List ℕ) {ps : List Payment} → ps ≡ [] → Added units units ps 0
 nothing_paid units e = rw e (added_none units)
 
--- the kinds of event but a charge
-abbrev others : List ℕ
-others = 0 ∷ 1 ∷ 2 ∷ 3 ∷ 4 ∷ 5 ∷ 7 ∷ 8 ∷ 9 ∷ 10 ∷ []
-
 module _ (units : List ℕ) where
   -- a refused event
   pub refused : (k : ℕ) (r : Running) (e : Event) → (k ≡ 0 → ⊥) → Added units units (paid k r e) 0
@@ -38,12 +31,11 @@ module _ (units : List ℕ) where
   refused (suc k) r e h = added_none units
 
   -- an event that is no charge
-  pub no_charge : (k : ℕ) (r : Running) (e : Event) → k ≡ 0 → OneOf others (tag_of the_type e)
-      → Added units units (paid k r e) 0
+  pub no_charge : (k : ℕ) (r : Running) (e : Event) → k ≡ 0 → ((u : ℕ) → e ≡ Charge u → ⊥) → Added units units (paid k r e) 0
   no_charge k r e z other = by (charge_or e)
     where
       by : ChargeOr e → Added units units (paid k r e) 0
-      by (is_charge u c) = absurd (miss others 6 tt (rw c at other))
+      by (is_charge u c) = absurd (other u c)
       by (pays_nothing f) = rw z (nothing_paid units (f r))
 
   -- a charge while nothing runs

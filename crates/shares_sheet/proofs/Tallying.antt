@@ -1,7 +1,7 @@
 -- Event by event: the units counted and those that the events left to come pay make the whole, and so does their total.
 use Prim.Native.Nat.{ℕ, zero, suc, ◌+◌, ◌≤◌, ◌<◌}
 use native.Mathlib.Omega.{arith}
-use mathlib.Core.Path.{◌≡◌, refl, ap, ◌∙◌}
+use mathlib.Core.Path.{◌≡◌, refl, sym, ap, ◌∙◌}
 use mathlib.Core.List.{List, [], ◌∷◌, ◌++◌}
 use mathlib.Core.Bool.{true}
 use types.Run.{OneOf}
@@ -20,6 +20,7 @@ use Rattle.rules.proofs.Soundness.Places.{sound_of}
 use Rattle.rules.proofs.Payments.{paid_in, paid_first, units_append, total_append, has_append, all_bounded}
 use Rattle.rules.proofs.Shares.{units_most, paid_below, printed}
 use Rattle.event_file.specs.declared.reader.Found.{Found}
+use Rattle.event_file.specs.declared.reader.Found.TheVariants.{Record}
 use Rattle.event_file.specs.Answers.{shown_found}
 use Rattle.event_file.specs.contracts.reader.Found.{the_type}
 use Rattle.event_file.proofs.Steps.{none_left}
@@ -65,6 +66,12 @@ pub record Turn (file : List ℕ) (offset next : ℕ) (m : Machine) (e : Event) 
   pub found : event e ≡ (stepped file offset).found
   pub moved : next ≡ (stepped file offset).offset
   pub given : Answers (dispatch e (shown m)) m r
+
+-- the code's turn: what the step found is that event
+pub turned : {file : List ℕ} {offset next : ℕ} {m : Machine} {f : Found} {e : Event} {r : Answered} → f ≡ Record e
+    → shown_found f ≡ (stepped file offset).found → next ≡ (stepped file offset).offset → Answers (dispatch e (shown m)) m r
+    → Turn file offset next m e r
+turned is found moved given = record { found = sym (ap shown_found is) ∙ found; moved = moved; given = given }
 
 module _ {file : List ℕ} {offset : ℕ} {m : Machine} {units : List ℕ} {all : ℕ} (g : Going file offset m units all) where
   module _ {e : Event} {next : ℕ} {r : Answered} (x : Turn file offset next m e r) where

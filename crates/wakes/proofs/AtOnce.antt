@@ -36,8 +36,8 @@ use Rattle.rules.proofs.Events.WakeEvent.{wake_accepted, woken, wake_releasable}
 use Rattle.rules.proofs.Agreement.{offer_accepted}
 
 -- "the thread is Ready, those On it are released", and what ran runs on: no link is followed
-abbrev pub runs_on : ℕ → State → Answered
-runs_on n s = accepted (record { state = (wake n s).state; links = 0 })
+abbrev pub keeps_running : ℕ → State → Answered
+keeps_running n s = accepted (record { state = (wake n s).state; links = 0 })
 
 -- the same, and the thread runs, paid by t: the links followed are those of t's chain
 abbrev pub takes_over : ℕ → ℕ → State → Answered
@@ -47,8 +47,8 @@ takes_over n t s =
 
 -- by the topmost of those On the thread, if there is one: whether it stands above the current timeslice, or nothing runs
 abbrev pub woken_by : ℕ → State → Option ℕ → Answered
-woken_by n s none = runs_on n s
-woken_by n s (some t) = cond (above_running s t s.running) (takes_over n t s) (runs_on n s)
+woken_by n s none = keeps_running n s
+woken_by n s (some t) = cond (above_running s t s.running) (takes_over n t s) (keeps_running n s)
 
 pub above_threads : (ts : List Thread) (s : State) (t : ℕ) (r : Running) → above_running (with_threads ts s) t r ≡ above_running s t r
 above_threads ts s t Nothing = refl

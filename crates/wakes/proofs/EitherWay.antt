@@ -24,7 +24,6 @@ use Rattle.rules.specs.Walk.{chain_of}
 use Rattle.rules.specs.Threads.{with_hold, set_hold}
 use Rattle.rules.specs.Release.{in_queue, on_thread, topmost_at, release}
 use Rattle.rules.specs.Sound.{sound}
-use Rattle.rules.specs.Refusals.{refusal}
 use Rattle.rules.specs.Events.{Answered, above_running, releases, wake, offer}
 use Rattle.rules.specs.Lists.{Ranged, run, after, numbers_of}
 use Rattle.rules.proofs.Basics.Views.{Two, yes_true, no_false, two}

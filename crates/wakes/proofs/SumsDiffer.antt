@@ -2,11 +2,10 @@
 -- Proved by computation, from the list of tests/sequences/two-wakes-one-way.
 use Prim.Native.Nat.{ℕ}
 use mathlib.Core.Path.{◌≡◌, refl}
-use mathlib.Core.List.{List, [], ◌∷◌}
+use mathlib.Core.List.{[], ◌∷◌}
 use mathlib.Core.Bool.{true}
 use Rattle.rules.specs.declared.Role.TheVariants.{Client, Server}
 use Rattle.rules.specs.declared.Hold.TheVariants.{Blocked}
-use Rattle.rules.specs.declared.Event.{Event}
 use Rattle.rules.specs.declared.Event.TheVariants.{Create, Give, Call, Block}
 use Rattle.rules.specs.State.{State, empty, hold_at}
 use Rattle.rules.specs.Sound.{sound}

@@ -1,0 +1,16 @@
+-- Nothing runs, or the chain of the current timeslice from its owner.
+use Rattle.rules.specs.Key.{bytes}
+use Rattle.text.proofs.Puts.{reading}
+use Rattle.reason_sheet.proofs.Listing.{chain_line_lem}
+use Rattle.reason_sheet.proofs.chain.put_chain_line.Goals as goal
+
+pub returns-in-Nothing : goal.returns-in-Nothing
+unfolding bytes
+returns-in-Nothing c =
+    rw c.in-Nothing.is c.put_bytes.ensures
+
+pub returns-in-Runs : goal.returns-in-Runs
+returns-in-Runs c =
+    reading
+    (chain_line_lem c.args.machine _ _ _ c.in-Runs.is c.timeslice_at-current.ensures c.count_live-links.ensures)
+    c.put_chain.ensures
