@@ -8,6 +8,6 @@ pub returns-then-input-at : goal.returns-then-input-at
 returns-then-input-at c = sym (cut_short c.args.at c.args.input.now c.if-input-at.true)
 
 pub returns : goal.returns
-returns c = 
+returns c =
     c.file_refusal.ensures ∙ ap file_refusal (part_from c.args.at c.args.input.now)
     ∙ sym (whole c.args.at c.args.input.now c.if-input-at.false)
