@@ -96,29 +96,29 @@ module _ (b : List ℕ) (control : ℕ) where
 
   module _ (isSound : Bool) (s : State) where
     -- the same poll, with the other control
-    abbrev with-control : Polled → Polled
-    with-control p = record { block = set p.block 0 control; answer = p.answer }
+    abbrev with_control : Polled → Polled
+    with_control p = record { block = set p.block 0 control; answer = p.answer }
 
-    both-woken : (line : ℕ) → woken other line (offer_if isSound (Wake (thread_of other line)) s)
-        ≡ with-control (woken b line (offer_if isSound (Wake (thread_of b line)) s))
-    both-woken line =
+    both_woken : (line : ℕ) → woken other line (offer_if isSound (Wake (thread_of other line)) s)
+        ≡ with_control (woken b line (offer_if isSound (Wake (thread_of b line)) s))
+    both_woken line =
         let answer = ap (λ (n : ℕ). offer_if isSound (Wake n) s) (other_byte (4 + line) (λ e. omega arith)) in
         let block = both_cleared (offer_if isSound (Wake (thread_of b line)) s).refusal line in
         ap (woken other line) answer ∙ (λ i. record { block = block i; answer = offer_if isSound (Wake (thread_of b line)) s })
 
-    found-both : length b ≡ 12 → (o : Option ℕ) → line_to_take b ≡ o → line_to_take other ≡ o
-        → poll_if isSound other s ≡ with-control (poll_if isSound b s)
-    found-both twelve none e e' =
-        polled_22 isSound other s (other_long ∙ twelve) e' ∙ ap with-control (sym (polled_22 isSound b s twelve e))
-    found-both twelve (some line) e e' =
+    found_both : length b ≡ 12 → (o : Option ℕ) → line_to_take b ≡ o → line_to_take other ≡ o
+        → poll_if isSound other s ≡ with_control (poll_if isSound b s)
+    found_both twelve none e e' =
+        polled_22 isSound other s (other_long ∙ twelve) e' ∙ ap with_control (sym (polled_22 isSound b s twelve e))
+    found_both twelve (some line) e e' =
         polled_line isSound other s line (other_long ∙ twelve) e'
-        ∙ both-woken line
-        ∙ ap with-control (sym (polled_line isSound b s line twelve e))
+        ∙ both_woken line
+        ∙ ap with_control (sym (polled_line isSound b s line twelve e))
 
-    pub polls-alike : bit 0 control ≡ is_on b → poll_if isSound other s ≡ with-control (poll_if isSound b s)
-    polls-alike same_bit = by (same (length b) 12)
+    pub polls_alike : bit 0 control ≡ is_on b → poll_if isSound other s ≡ with_control (poll_if isSound b s)
+    polls_alike same_bit = by (same (length b) 12)
       where
-        by : Same (length b) 12 → poll_if isSound other s ≡ with-control (poll_if isSound b s)
-        by (equal twelve _) = found-both twelve (line_to_take b) refl (same_line same_bit twelve)
+        by : Same (length b) 12 → poll_if isSound other s ≡ with_control (poll_if isSound b s)
+        by (equal twelve _) = found_both twelve (line_to_take b) refl (same_line same_bit twelve)
         by (different short _) =
-            polled_20 isSound other s (λ e. short (sym other_long ∙ e)) ∙ ap with-control (sym (polled_20 isSound b s short))
+            polled_20 isSound other s (λ e. short (sym other_long ∙ e)) ∙ ap with_control (sym (polled_20 isSound b s short))

@@ -17,12 +17,12 @@ pub takes_found : (b : List ℕ) (line : ℕ) → line_to_take b ≡ some line �
 unfolding line_to_take
 takes_found b line e = by (two (is_on b))
   where
-    with-on : Bool → Option ℕ
-    with-on on = cond on (lowest (may_take b)) none
+    with_on : Bool → Option ℕ
+    with_on on = cond on (lowest (may_take b)) none
 
     by : Two (is_on b) → Takes b line
     by (yes_true on) =
-        let this = finds_line (may_take b) line (sym (ap with-on on) ∙ e) in
+        let this = finds_line (may_take b) line (sym (ap with_on on) ∙ e) in
         record {
           on = on;
           one_of_eight = this.inside;
@@ -30,7 +30,7 @@ takes_found b line e = by (two (is_on b))
           enabled = and_true_right (is_pending b line) (is_enabled b line) this.passes;
           lowest = λ lower below. this.first lower (omega arith) below;
         }
-    by (no_false off) = absurd (not_found line (sym (ap with-on off) ∙ e))
+    by (no_false off) = absurd (not_found line (sym (ap with_on off) ∙ e))
 
 -- a line that passes, and none below it does, is the one found
 found_lowest : (test : ℕ → Bool) (line : ℕ) → line < 8 → test line ≡ true → ((lower : ℕ) → lower < line → test lower ≡ false)

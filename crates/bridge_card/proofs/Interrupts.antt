@@ -1,8 +1,8 @@
--- THE THEOREMS of request [9], of every block and every machine. `line-exactly`: a line is to be taken exactly where it is the lowest that
--- is pending and enabled, with the card on. `poll-comes`: what a poll comes to. `poll-sound`: its machine stays sound. `held_back`: a
--- refused wake holds back the lines above. `raise-then-poll`, `as-the-wake`, `as-in-a-list`: it wakes the thread as the event would.
--- `reads-back`, `control-alike`: control's other bits are stored and change nothing. `only-raise-sets`, `raise-sets`: which operation sets
--- a pending bit. `drains`, `code-drains`: polls until the first refusal.
+-- THE THEOREMS of request [9], of every block and every machine. `line_exactly`: a line is to be taken exactly where it is the lowest that
+-- is pending and enabled, with the card on. `poll_comes`: what a poll comes to. `poll_sound`: its machine stays sound. `held_back`: a
+-- refused wake holds back the lines above. `raise_then_poll`, `as_the_wake`, `as_in_a_list`: it wakes the thread as the event would.
+-- `reads_back`, `control_alike`: control's other bits are stored and change nothing. `only_raise_sets`, `raise_sets`: which operation sets
+-- a pending bit. `drains`, `code_drains`: polls until the first refusal.
 use Prim.Native.Nat.{ℕ, zero, suc, ◌≤◌, ◌<◌}
 use native.Mathlib.Omega.{arith}
 use mathlib.Core.Path.{◌≡◌, refl, sym, ap, ◌∙◌, subst}
@@ -33,7 +33,7 @@ use Rattle.dispatcher.specs.declared.Answered as code
 use Rattle.dispatcher.specs.Shown.{shown, sound_machine}
 use Rattle.dispatcher.specs.Promise.{Answers}
 use Rattle.dispatcher.proofs.Runs.{answer_to}
-use Rattle.bridge_card.proofs.Refusing.{read_none, write-none}
+use Rattle.bridge_card.proofs.Refusing.{read_none, write_none}
 use Rattle.bridge_card.proofs.Answering.{read_stored, write_done, written_other}
 use Rattle.bridge_card.proofs.Polling.{polled_line}
 use Rattle.bridge_card.proofs.Pending.{cleared}
@@ -41,7 +41,7 @@ use Rattle.bridge_card.proofs.Exactly.{not_found, takes_found, found_takes}
 use Rattle.bridge_card.proofs.Waking.{as_offered}
 use Rattle.bridge_card.proofs.Coming.{comes, poll_sets_none}
 use Rattle.bridge_card.proofs.Raising.{write_sets_none, raised_pending, raise_as_long, raise_thread, still_takes, raised_cleared}
-use Rattle.bridge_card.proofs.Control.{polls-alike, raises_alike, writes_alike, reads_alike}
+use Rattle.bridge_card.proofs.Control.{polls_alike, raises_alike, writes_alike, reads_alike}
 use Rattle.bridge_card.proofs.Draining.{none_below_0}
 use Rattle.bridge_card.proofs.Emptying.{empties}
 use Rattle.bridge_card.proofs.Following.{polled_sound, follows}
@@ -154,7 +154,7 @@ pub reads_back : (b : List ℕ) (register byte : ℕ) → length b ≡ 12 → re
 reads_back b register byte twelve small other three =
     let stored = set b register byte in
     let wrote : write b register byte ≡ record { refusal = 0; block = stored } =
-    sym (write_done b register byte 0 (sym (write-none b twelve register small three)) stored refl (written_other b register byte other)) in
+    sym (write_done b register byte 0 (sym (write_none b twelve register small three)) stored refl (written_other b register byte other)) in
     let tested = read_none stored (length-set b register byte ∙ twelve) register small in
     ap (λ (c : Changed). read c.block register) wrote
     ∙ sym (read_stored stored register 0 (sym tested) refl three)
@@ -173,7 +173,7 @@ pub record ControlAlike (isSound : Bool) (b : List ℕ) (control : ℕ) (s : Sta
 pub control_alike : (isSound : Bool) (b : List ℕ) (control : ℕ) (s : State) → ControlAlike isSound b control s
 control_alike isSound b control s =
     record {
-      polls = polls-alike b control isSound s;
+      polls = polls_alike b control isSound s;
       raises = raises_alike b control;
       writes = writes_alike b control;
       reads = reads_alike b control;

@@ -47,34 +47,34 @@ write_sets_none b register byte line small =
         rw is (λ pending. ap (bit line) (sym (get_or-set_other b register 1 byte 0 (λ e. other (sym e)))) ∙ pending)
 
 module _ (b : List ℕ) (line : ℕ) where
-  abbrev and-this : ℕ → Bool
-  and-this other = is_pending b other || eqb other line
+  abbrev and_this : ℕ → Bool
+  and_this other = is_pending b other || eqb other line
 
   -- an accepted raise
-  pub raised_pending : (raise b line).refusal ≡ 0 → (other : ℕ) → other < 8 → is_pending (raise b line).block other ≡ and-this other
+  pub raised_pending : (raise b line).refusal ≡ 0 → (other : ℕ) → other < 8 → is_pending (raise b line).block other ≡ and_this other
   unfolding raise
   raised_pending e other small = by (raise_refusal b line) (λ is. (raise_accepted b line is).0) e
     where
       by : (k : ℕ) → (k ≡ 0 → length b ≡ 12) → (changed_after k (raised b line) b).refusal ≡ 0
-          → is_pending (changed_after k (raised b line) b).block other ≡ and-this other
-      by zero twelve e = now_pending and-this b (twelve refl) other small
+          → is_pending (changed_after k (raised b line) b).block other ≡ and_this other
+      by zero twelve e = now_pending and_this b (twelve refl) other small
       by (suc k) twelve e = absurd (omega arith)
 
   -- any raise
   pub raise_others : (other : ℕ) → other < 8 → (other ≡ line → ⊥) → is_pending (raise b line).block other ≡ is_pending b other
   raise_others other small apart =
       by_raise (λ (c : List ℕ). is_pending c other ≡ is_pending b other) b line
-      (λ twelve. now_pending and-this b twelve other small ∙ or-none (is_pending b other) (eqb other line) (ne_eqb other line apart)) refl
+      (λ twelve. now_pending and_this b twelve other small ∙ or_none (is_pending b other) (eqb other line) (ne_eqb other line apart)) refl
     where
-      or-none : (a c : Bool) → c ≡ false → (a || c) ≡ a
-      or-none true c e = refl
-      or-none false c e = e
+      or_none : (a c : Bool) → c ≡ false → (a || c) ≡ a
+      or_none true c e = refl
+      or_none false c e = e
 
   pub raise_bytes : (at : ℕ) → (at ≡ 1 → ⊥) → get_or (raise b line).block at 0 ≡ get_or b at 0
-  raise_bytes at other = by_raise (λ (c : List ℕ). get_or c at 0 ≡ get_or b at 0) b line (λ _. other_bytes and-this b at other) refl
+  raise_bytes at other = by_raise (λ (c : List ℕ). get_or c at 0 ≡ get_or b at 0) b line (λ _. other_bytes and_this b at other) refl
 
   pub raise_as_long : length (raise b line).block ≡ length b
-  raise_as_long = by_raise (λ (c : List ℕ). length c ≡ length b) b line (λ _. as_long and-this b) refl
+  raise_as_long = by_raise (λ (c : List ℕ). length c ≡ length b) b line (λ _. as_long and_this b) refl
 
   pub raise_thread : (of : ℕ) → thread_of (raise b line).block of ≡ thread_of b of
   raise_thread of = raise_bytes (4 + of) (λ e. omega arith)

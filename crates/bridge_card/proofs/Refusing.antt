@@ -17,16 +17,16 @@ module _ (b : List ℕ) where
     pub no_block : is_block b ≡ false
     no_block = ne_eqb (length b) 12 other
 
-    pub refused-20 : (wrong : Bool) → 20 ≡ refusal_of b wrong
-    refused-20 wrong = rw no_block refl
+    pub refused_20 : (wrong : Bool) → 20 ≡ refusal_of b wrong
+    refused_20 wrong = rw no_block refl
 
   module _ (twelve : length b ≡ 12) where
     pub a_block : is_block b ≡ true
     a_block = eq-eqb (length b) 12 twelve
 
     -- "21, .., after 20"
-    pub refused-21 : (wrong : Bool) → wrong ≡ true → 21 ≡ refusal_of b wrong
-    refused-21 wrong e = rw (a_block, e) refl
+    pub refused_21 : (wrong : Bool) → wrong ≡ true → 21 ≡ refusal_of b wrong
+    refused_21 wrong e = rw (a_block, e) refl
 
     pub not_refused : (wrong : Bool) → wrong ≡ false → 0 ≡ refusal_of b wrong
     not_refused wrong e = rw (a_block, e) refl
@@ -35,9 +35,9 @@ module _ (b : List ℕ) where
     unfolding read_refusal
     read_none register small = rw (a_block, le-ltb 11 register small) refl
 
-    pub write-none : (register : ℕ) → register ≤ 11 → (register ≡ 3 → ⊥) → write_refusal b register ≡ 0
+    pub write_none : (register : ℕ) → register ≤ 11 → (register ≡ 3 → ⊥) → write_refusal b register ≡ 0
     unfolding write_refusal
-    write-none register small other = rw (a_block, le-ltb 11 register small, ne_eqb register 3 other) refl
+    write_none register small other = rw (a_block, le-ltb 11 register small, ne_eqb register 3 other) refl
 
   -- the number that the code's tests gave is that of the operation
   module _ {n : ℕ} where
@@ -45,13 +45,13 @@ module _ (b : List ℕ) where
     unfolding read_refusal
     is_read register e = e
 
-    pub is-write : (register : ℕ) {wrong : Bool} → wrong ≡ not_written register → n ≡ refusal_of b wrong → n ≡ write_refusal b register
+    pub is_write : (register : ℕ) {wrong : Bool} → wrong ≡ not_written register → n ≡ refusal_of b wrong → n ≡ write_refusal b register
     unfolding write_refusal
-    is-write register is e = e ∙ ap (refusal_of b) is
+    is_write register is e = e ∙ ap (refusal_of b) is
 
-    pub is-raise : (line : ℕ) → n ≡ refusal_of b (ltb 7 line) → n ≡ raise_refusal b line
+    pub is_raise : (line : ℕ) → n ≡ refusal_of b (ltb 7 line) → n ≡ raise_refusal b line
     unfolding raise_refusal
-    is-raise line e = e
+    is_raise line e = e
 
   -- not refused with 20
   block_first : (rest : ℕ) → (not (is_block b) gives 20 else rest) ≡ 0 → (length b ≡ 12) × (rest ≡ 0)

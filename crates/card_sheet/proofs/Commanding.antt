@@ -12,7 +12,7 @@ use Rattle.dispatcher.specs.declared.Machine.{Machine}
 use Rattle.dispatcher.specs.Shown.{shown, sound_machine, empty_machine}
 use Rattle.dispatcher.proofs.Runs.{shows_empty, empty_machine_sound}
 use Rattle.replay.specs.Running.{Ready}
-use Rattle.replay.proofs.Inputs.{file-accepted}
+use Rattle.replay.proofs.Inputs.{file_accepted}
 use Rattle.text.specs.Line.{line_bytes}
 use Rattle.text.specs.Put.{Put}
 use Rattle.text.proofs.Puts.{◌then◌, reading}
@@ -75,7 +75,7 @@ command_none input out {file} {block} {m} {place} {left} narrow accepted is-file
       few = omega (arith, count, narrow (count_at input));
       ready =
           record {
-            left = all_left file (ap file_refusal is-file ∙ file-accepted (file_at input) input accepted);
+            left = all_left file (ap file_refusal is-file ∙ file_accepted (file_at input) input accepted);
             sound = ap sound_machine is-empty ∙ empty_machine_sound;
           };
       size = refl;

@@ -26,19 +26,19 @@ module _ (c : Command) (w : Stand) where
   reads_done e = rw (eq-eqb c.op 0 e) refl
 
   module _ (no_read : c.op ≡ 0 → ⊥) where
-    writes-done : c.op ≡ 1 → done c w ≡ after_change (write w.block c.a c.b) w
+    writes_done : c.op ≡ 1 → done c w ≡ after_change (write w.block c.a c.b) w
     unfolding done
-    writes-done e = rw (ne_eqb c.op 0 no_read, eq-eqb c.op 1 e) refl
+    writes_done e = rw (ne_eqb c.op 0 no_read, eq-eqb c.op 1 e) refl
 
     module _ (no_write : c.op ≡ 1 → ⊥) where
-      raises-done : c.op ≡ 2 → done c w ≡ after_change (raise w.block c.a) w
+      raises_done : c.op ≡ 2 → done c w ≡ after_change (raise w.block c.a) w
       unfolding done
-      raises-done e = rw (ne_eqb c.op 0 no_read, ne_eqb c.op 1 no_write, eq-eqb c.op 2 e) refl
+      raises_done e = rw (ne_eqb c.op 0 no_read, ne_eqb c.op 1 no_write, eq-eqb c.op 2 e) refl
 
       module _ (no_raise : c.op ≡ 2 → ⊥) where
-        polls-done : c.op ≡ 3 → done c w ≡ after_poll (poll w.block w.state) w
+        polls_done : c.op ≡ 3 → done c w ≡ after_poll (poll w.block w.state) w
         unfolding done
-        polls-done e =
+        polls_done e =
             rw (ne_eqb c.op 0 no_read, ne_eqb c.op 1 no_write, ne_eqb c.op 2 no_raise, eq-eqb c.op 3 e) refl
 
         runs_done : (c.op ≡ 3 → ⊥) → done c w ≡ after_events c.a w
@@ -80,13 +80,13 @@ module _ {file : List ℕ} {offset : ℕ} {m : Machine} (ready : Ready file offs
       → record { refusal = number; block = after } ≡ write b c.a c.b
       → Obeys (done c here) file after (record { machine = m; offset = offset; refusal = number; links = 0; byte = 0 })
   obeys_write no_read e is =
-      stays (ap (λ (z : Changed). after_change z here) is ∙ sym (writes-done c here no_read e)) refl refl refl refl refl refl
+      stays (ap (λ (z : Changed). after_change z here) is ∙ sym (writes_done c here no_read e)) refl refl refl refl refl refl
 
   pub obeys_raise : {after : List ℕ} {number : ℕ} → (c.op ≡ 0 → ⊥) → (c.op ≡ 1 → ⊥) → c.op ≡ 2
       → record { refusal = number; block = after } ≡ raise b c.a
       → Obeys (done c here) file after (record { machine = m; offset = offset; refusal = number; links = 0; byte = 0 })
   obeys_raise no_read no_write e is =
-      stays (ap (λ (z : Changed). after_change z here) is ∙ sym (raises-done c here no_read no_write e)) refl refl refl refl refl refl
+      stays (ap (λ (z : Changed). after_change z here) is ∙ sym (raises_done c here no_read no_write e)) refl refl refl refl refl refl
 
   -- a sound machine's poll is the definitions'
   pub obeys_poll : {after : List ℕ} {r : Answered} → (c.op ≡ 0 → ⊥) → (c.op ≡ 1 → ⊥) → (c.op ≡ 2 → ⊥) → c.op ≡ 3
@@ -96,7 +96,7 @@ module _ {file : List ℕ} {offset : ℕ} {m : Machine} (ready : Ready file offs
   obeys_poll {after} {r} no_read no_write no_raise e p =
       let same : poll_of b m ≡ poll b (shown m) =
       ap (λ (q : Bool). poll_if q b (shown m)) (ready.sound ∙ sym (sound_shown m ready.sound)) in
-      let is = ap (λ (z : Polled). after_poll z here) same ∙ sym (polls-done c here no_read no_write no_raise e) in
+      let is = ap (λ (z : Polled). after_poll z here) same ∙ sym (polls_done c here no_read no_write no_raise e) in
       subst (λ (z : Done). Obeys z file after
       (record { machine = r.machine; offset = offset; refusal = r.refusal; links = r.links; byte = 0 })) is
       (record {

@@ -130,13 +130,13 @@ module _ (n : ℕ) (m : Machine) (q : ℕ) (ts : List Timeslice) (top : topmost_
         })
         ∙ sym (ap (release_to (on_thread n) (shown m)) top)
 
-    pub freed-exact : Choosable m 0 → Choosable freed 0
-    freed-exact c = record { exact = stored_with m c.exact freed refl refl (live_is m c.exact); few = c.few }
+    pub freed_exact : Choosable m 0 → Choosable freed 0
+    freed_exact c = record { exact = stored_with m c.exact freed refl refl (live_is m c.exact); few = c.few }
 
-    pub first-released : (a : Answered) → Settled (settle_if (overtakes (shown freed) (some q)) (before freed 0)) a
+    pub first_released : (a : Answered) → Settled (settle_if (overtakes (shown freed) (some q)) (before freed 0)) a
         → Settled (settle (releases n (shown m))) a
     unfolding releases
-    first-released a s =
+    first_released a s =
         let over : overtakes (shown freed) (some q) ≡ overtakes (shown m) (topmost_at (on_thread n) (shown m)) =
         over_same (shown freed) (shown m) q m.running r.slices refl ∙ ap (overtakes (shown m)) (sym top) in
         subst (λ (o : Outcome). Settled o a) (ap₂ (λ b u. settle_if b (record { state = u; links = 0 })) over shows) s
@@ -147,5 +147,5 @@ pub alone_settled : (n : ℕ) (m : Machine) (q : ℕ) (now : Machine) → topmos
     → Settled (settle_if (overtakes (shown now) (some q)) (before now 0)) a
     → Settled (settle (releases n (shown m))) a
 alone_settled n m q now top l a s =
-    first-released n m q now.timeslices top l.placed a
+    first_released n m q now.timeslices top l.placed a
     (subst (λ (o : Machine). Settled (settle_if (overtakes (shown o) (some q)) (before o 0)) a) l.others s)

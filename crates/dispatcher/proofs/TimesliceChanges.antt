@@ -59,9 +59,9 @@ module _ (m : Machine) (j t n p q : ℕ) (at : j ≡ t) (s : Sides) (short : m.l
     many : length (last t (shown m).order) ≡ m.live_timeslices + 1
     many = length_last t (shown m).order ∙ ap suc (turns_many m ok) ∙ sym (add-one m.live_timeslices)
 
-    pub gift-shown : shown gift ≡ with_given t n p q (shown m)
+    pub gift_shown : shown gift ≡ with_given t n p q (shown m)
     unfolding with_given given
-    gift-shown =
+    gift_shown =
         let x : Timeslice = record { owner = n; priority = p; quantum = q; left = q; place = Queue } in
         let slices : map slice_of (set m.timeslices j x) ≡ set (map slice_of m.timeslices) t (slice_of x) =
         map-set slice_of m.timeslices j x ∙ ap (λ (i : ℕ). set (map slice_of m.timeslices) i (slice_of x)) at in
@@ -70,8 +70,8 @@ module _ (m : Machine) (j t n p q : ℕ) (at : j ≡ t) (s : Sides) (short : m.l
         let order = order_shown gift (last t (shown m).order) k many (omega arith) in
         λ i. record { threads = m.threads; slices = slices i; places = places i; order = order i; running = m.running }
 
-    pub gift-exact : stored gift ≡ true
-    gift-exact = stored_of gift (last t (shown m).order) k many (omega arith) (live_is m ok)
+    pub gift_exact : stored gift ≡ true
+    gift_exact = stored_of gift (last t (shown m).order) k many (omega arith) (live_is m ok)
 
 -- so much is left of a timeslice now, at this place
 module _ (ts : List Timeslice) (k t l : ℕ) (p : Place) (at : k ≡ t) where
@@ -163,28 +163,28 @@ module _ (m : Machine) (t : ℕ) (ok : stored m ≡ true) (listed : member t (sh
     few : length (without t turns) ≡ m.live_timeslices - 1
     few = omega (arith, one_less)
 
-    pub fewer-exact : (ts : List Timeslice) → stored (fewer ts) ≡ true
-    fewer-exact ts = stored_of (fewer ts) (without t turns) l few (omega (arith, turns_fit m ok)) (live_is m ok)
+    pub fewer_exact : (ts : List Timeslice) → stored (fewer ts) ≡ true
+    fewer_exact ts = stored_of (fewer ts) (without t turns) l few (omega (arith, turns_fit m ok)) (live_is m ok)
 
-    rest-turns : turns_read rest.after (m.live_timeslices - 1) ≡ without t turns
-    rest-turns = order_shown (fewer []) (without t turns) l few (omega (arith, turns_fit m ok))
+    rest_turns : turns_read rest.after (m.live_timeslices - 1) ≡ without t turns
+    rest_turns = order_shown (fewer []) (without t turns) l few (omega (arith, turns_fit m ok))
 
     -- the free slot, and the release of the followers
     module _ (k : ℕ) (at : k ≡ t) (free : List Timeslice) where
       abbrev pub cleared : List Timeslice
       cleared = set m.timeslices k free_timeslice
 
-      pub struck-shown :
+      pub struck_shown :
           Replaced cleared
           (places_after (behind t) (map slice_of cleared) (turns_read rest.after (m.live_timeslices - 1)) (map place_of cleared)) free
           → shown (fewer free) ≡ strike_out (some t) (shown m)
       unfolding park struck
-      struck-shown r =
+      struck_shown r =
           let slices : map slice_of cleared ≡ set (map slice_of m.timeslices) t free_slice =
           map-set slice_of m.timeslices k free_timeslice ∙ ap (λ (j : ℕ). set (map slice_of m.timeslices) j free_slice) at in
           let places : map place_of cleared ≡ set (map place_of m.timeslices) t Queue =
           map-set place_of m.timeslices k free_timeslice ∙ ap (λ (j : ℕ). set (map place_of m.timeslices) j Queue) at in
-          released_shown (fewer free) (behind t) _ _ cleared free _ _ rest _ refl slices places rest-turns r
+          released_shown (fewer free) (behind t) _ _ cleared free _ _ rest _ refl slices places rest_turns r
 
 -- after a walk, by what it came to
 pub after_walk_lem : (c : Chain) (b : Bool) (k : ℕ) (m : Machine) (s : State) (r : Answered) → k ≡ c.links

@@ -1,5 +1,5 @@
 -- THE THEOREM about the code of event files, demand 2. What the code answers is known by the contracts of `start` and `append` alone; by
--- these its answers are the definitions' (`as-defined`), of which rules/proofs/Files/Inverse.antt speaks.
+-- these its answers are the definitions' (`as_defined`), of which rules/proofs/Files/Inverse.antt speaks.
 use Prim.Native.Nat.{ℕ, ◌≤◌}
 use mathlib.Core.Path.{◌≡◌, refl, ap, ◌∙◌}
 use mathlib.Core.List.{List, [], ◌∷◌}

@@ -69,8 +69,8 @@ module _ {bytes : List ℕ} {offset : ℕ} {events : List Event} (a : Left bytes
 
   -- an event is found: it is the first
   module _ {e : Event} {to : ℕ} (found : event e ≡ (stepped bytes offset).found) (moved : to ≡ (stepped bytes offset).offset) where
-    first-inside : offset < length bytes → First bytes offset to events e
-    first-inside h =
+    first_inside : offset < length bytes → First bytes offset to events e
+    first_inside h =
         let n = ahead bytes offset events a.low h a.reads in
         let rest = n.rest in
         let at = ap (λ (s : Stepped). s.offset) n.step in
@@ -92,7 +92,7 @@ module _ {bytes : List ℕ} {offset : ℕ} {events : List Event} (a : Left bytes
     first = by (two (ltb offset (length bytes)))
       where
         by : Two (ltb offset (length bytes)) → First bytes offset to events e
-        by (yes_true h) = first-inside (ltb-true offset (length bytes) h)
+        by (yes_true h) = first_inside (ltb-true offset (length bytes) h)
         by (no_false h) =
             let none = none_at_end (omega (arith, ltb-false offset (length bytes) h, a.inside)) in
             clash (is_event (stepped bytes offset).found) (sym (ap is_event found)) none.0

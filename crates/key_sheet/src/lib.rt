@@ -13,7 +13,7 @@ use text::{INPUT, file_buffer, put_file_line};
 pub const ROOM: usize = 1048576;
 
 // A buffer for what is read. Of an input of any length it holds enough: the key of that much is the key of the whole
-// (`enough-for-key`, in crate text).
+// (`enough_for_key`, in crate text).
 pub fn input() -> [u8; INPUT]
     ensures { (b : List ℕ) → key (take (length result) b) ≡ key b }
 {

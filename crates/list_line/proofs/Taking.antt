@@ -59,12 +59,12 @@ module _ (line : List ℕ) (at most above to : ℕ) where
   takes_none e = record { is = λ next. rw e refl }
 
   module _ (word : List ℕ) (rest : List (List ℕ)) (found : words_of (drop at line) ≡ word ∷ rest) where
-    pub takes-no-number : 65537 ≡ numeral 0 word → TakesNumber line at most above 2 0 to
-    takes-no-number e = record { is = λ next. rw (found, no_number word e (two (all digit_byte word))) refl }
+    pub takes_no_number : 65537 ≡ numeral 0 word → TakesNumber line at most above 2 0 to
+    takes_no_number e = record { is = λ next. rw (found, no_number word e (two (all digit_byte word))) refl }
 
-    pub takes-above : (n : ℕ) → n ≡ numeral 0 word → (n ≡ 65537 → ⊥) → most < n → most ≤ 65535 → 1 ≤ above
+    pub takes_above : (n : ℕ) → n ≡ numeral 0 word → (n ≡ 65537 → ⊥) → most < n → most ≤ 65535 → 1 ≤ above
         → TakesNumber line at most above above 0 to
-    takes-above n e h large m some =
+    takes_above n e h large m some =
         let x = is_number n word e h (two (all digit_byte word)) in
         let far = large_value n most word x.value_is large m (two (leb (value word) 65535)) in
         record { is = λ next. rw (found, x.digits, lt-leb (value word) most far) (is_wrong above _ some) }

@@ -103,9 +103,9 @@ module _ {text : List ℕ} {at line filled end : ℕ} (c : Counting text at line
         ∙ ap (λ (ls : List (List ℕ)). counted filled (read_lines line filled ls)) (sym (lines_split text at end c.inside ends))
         ∙ c.whole
 
-    pub counted-wrong : {wrong : Bool} {fault after : ℕ} → Counts filled read-line wrong fault after → wrong ≡ true
+    pub counted_wrong : {wrong : Bool} {fault after : ℕ} → Counts filled read-line wrong fault after → wrong ≡ true
         → record { bytes = 0; line = line; fault = fault } ≡ counted 5 (read_lines 1 5 (parts line_feed text))
-    counted-wrong {wrong} {fault} {after} p e =
+    counted_wrong {wrong} {fault} {after} p e =
         ap (λ (b : Bool). cond b (record { bytes = 0; line = line; fault = fault })
         (counted after (read_lines (line + 1) after (later line_feed (drop at text))))) (sym e) ∙ here p
 
@@ -115,16 +115,16 @@ module _ {text : List ℕ} {at line filled end : ℕ} (c : Counting text at line
           ap (λ (b : Bool). cond b (record { bytes = 0; line = line; fault = fault })
           (counted after (read_lines (line + 1) after (later line_feed (drop at text))))) (sym good) ∙ here p
 
-      pub counted-all : length text ≤ end → record { bytes = after; line = 0; fault = 0 } ≡ counted 5
+      pub counted_all : length text ≤ end → record { bytes = after; line = 0; fault = 0 } ≡ counted 5
           (read_lines 1 5 (parts line_feed text))
       unfolding read_lines records_of
-      counted-all h =
+      counted_all h =
           let sum : after ≡ after + 0 = omega arith in
           ap (λ (n : ℕ). record { bytes = n; line = 0; fault = 0 }) sum
           ∙ ap (λ (ls : List (List ℕ)). counted after (read_lines (line + 1) after ls)) (sym (last_line text at end c.inside ends h)) ∙ on
 
-      pub counted-on : end < length text → after ≤ 65536 → Counting text (end + 1) (line + 1) after
-      counted-on h small =
+      pub counted_on : end < length text → after ≤ 65536 → Counting text (end + 1) (line + 1) after
+      counted_on h small =
           record {
             inside = omega arith;
             few = omega (arith, c.few, line_within text at end c.inside ends);

@@ -87,26 +87,26 @@ module _ (s : Sides) (order : List ℕ) (k : Chained s order) where
     after_last =
         put_other _ t sentinel _ (λ e. last_other t small out (sym e)) ∙ put_here s.after _ t k.afters last_low
 
-    after-it : neighbour (appended t s).after t ≡ sentinel
+    after_it : neighbour (appended t s).after t ≡ sentinel
     unfolding appended
-    after-it = put_here _ t sentinel (length-put s.after _ t ∙ k.afters) (omega arith)
+    after_it = put_here _ t sentinel (length-put s.after _ t ∙ k.afters) (omega arith)
 
-    after-others : (v : ℕ) → (v ≡ neighbour s.before sentinel → ⊥) → (v ≡ t → ⊥)
+    after_others : (v : ℕ) → (v ≡ neighbour s.before sentinel → ⊥) → (v ≡ t → ⊥)
         → neighbour (appended t s).after v ≡ neighbour s.after v
     unfolding appended
-    after-others v other apart = put_other _ t sentinel v apart ∙ put_other s.after _ t v other
+    after_others v other apart = put_other _ t sentinel v apart ∙ put_other s.after _ t v other
 
-    before-it : neighbour (appended t s).before t ≡ neighbour s.before sentinel
+    before_it : neighbour (appended t s).before t ≡ neighbour s.before sentinel
     unfolding appended
-    before-it = put_other _ sentinel t t (λ e. absurd (omega arith)) ∙ put_here s.before t _ k.befores (omega arith)
+    before_it = put_other _ sentinel t t (λ e. absurd (omega arith)) ∙ put_here s.before t _ k.befores (omega arith)
 
-    before-own : neighbour (appended t s).before sentinel ≡ t
+    before_own : neighbour (appended t s).before sentinel ≡ t
     unfolding appended
-    before-own = put_here _ sentinel t (length-put s.before t _ ∙ k.befores) (omega arith)
+    before_own = put_here _ sentinel t (length-put s.before t _ ∙ k.befores) (omega arith)
 
-    before-others : (v : ℕ) → (v ≡ sentinel → ⊥) → (v ≡ t → ⊥) → neighbour (appended t s).before v ≡ neighbour s.before v
+    before_others : (v : ℕ) → (v ≡ sentinel → ⊥) → (v ≡ t → ⊥) → neighbour (appended t s).before v ≡ neighbour s.before v
     unfolding appended
-    before-others v other apart = put_other _ sentinel t v other ∙ put_other s.before t _ v apart
+    before_others v other apart = put_other _ sentinel t v other ∙ put_other s.before t _ v apart
 
     sizes : (length (appended t s).before ≡ room) × (length (appended t s).after ≡ room)
     unfolding appended
@@ -122,11 +122,11 @@ module _ (s : Sides) (order : List ℕ) (k : Chained s order) where
           befores = sizes.0;
           afters = sizes.1;
           path = through (appended t s) sentinel order t [] sentinel
-              (ends_at s (appended t s) sentinel order sentinel t k.path own_not_listed after_last before-it
-              (λ x h other. after-others x other
+              (ends_at s (appended t s) sentinel order sentinel t k.path own_not_listed after_last before_it
+              (λ x h other. after_others x other
               (own_or_listed (λ y. y ≡ t → ⊥) order (λ e. absurd (omega arith)) (λ y h. unlike y t order h out) x h))
-              (λ x h. before-others x (λ e. absurd (omega (arith, k.low x h))) (unlike x t order h out)))
-              (after-it, before-own);
+              (λ x h. before_others x (λ e. absurd (omega (arith, k.low x h))) (unlike x t order h out)))
+              (after_it, before_own);
           low = λ x h. by x h (same x t);
         }
       where
@@ -138,8 +138,8 @@ module _ (s : Sides) (order : List ℕ) (k : Chained s order) where
     append-free : (v : ℕ) → v < limit → member v order ≡ false → (v ≡ t → ⊥)
         → (neighbour (appended t s).before v ≡ neighbour s.before v) × (neighbour (appended t s).after v ≡ neighbour s.after v)
     append-free v low none apart = (
-      before-others v (λ e. absurd (omega arith)) apart,
-      after-others v (last_other v low none) apart,
+      before_others v (λ e. absurd (omega arith)) apart,
+      after_others v (last_other v low none) apart,
     )
 
   -- a timeslice passed over
@@ -173,45 +173,45 @@ module _ (s : Sides) (order : List ℕ) (k : Chained s order) where
     apart = parted place.front (t ∷ place.back) (subst (λ (l : List ℕ). distinct l ≡ true) place.is listed_once)
 
     -- what is said of the list's own entry and of the members is said of both neighbours
-    is-previous : (P : ℕ → Type 0) → P sentinel → ((x : ℕ) → member x place.front ≡ true → P x) → P previous
-    is-previous P own on = before_end s P sentinel place.front t left own on
+    is_previous : (P : ℕ → Type 0) → P sentinel → ((x : ℕ) → member x place.front ≡ true → P x) → P previous
+    is_previous P own on = before_end s P sentinel place.front t left own on
 
-    is-following : (P : ℕ → Type 0) → P sentinel → ((x : ℕ) → member x place.back ≡ true → P x) → P following
-    is-following P own on = after_start s P t place.back sentinel right own on
+    is_following : (P : ℕ → Type 0) → P sentinel → ((x : ℕ) → member x place.back ≡ true → P x) → P following
+    is_following P own on = after_start s P t place.back sentinel right own on
 
-    previous-low : previous < room
-    previous-low = is-previous (λ x. x < room) (omega arith) (λ x i. omega (arith, k.low x (fronts x i)))
+    previous_low : previous < room
+    previous_low = is_previous (λ x. x < room) (omega arith) (λ x i. omega (arith, k.low x (fronts x i)))
 
-    following-low : following < room
-    following-low = is-following (λ x. x < room) (omega arith) (λ x i. omega (arith, k.low x (backs x i)))
+    following_low : following < room
+    following_low = is_following (λ x. x < room) (omega arith) (λ x i. omega (arith, k.low x (backs x i)))
 
-    after-previous : neighbour (passed_over t s).after previous ≡ following
+    after_previous : neighbour (passed_over t s).after previous ≡ following
     unfolding passed_over
-    after-previous = put_here s.after previous following k.afters previous-low
+    after_previous = put_here s.after previous following k.afters previous_low
 
-    before-following : neighbour (passed_over t s).before following ≡ previous
+    before_following : neighbour (passed_over t s).before following ≡ previous
     unfolding passed_over
-    before-following = put_here s.before following previous k.befores following-low
+    before_following = put_here s.before following previous k.befores following_low
 
-    pass-after : (v : ℕ) → (v ≡ previous → ⊥) → neighbour (passed_over t s).after v ≡ neighbour s.after v
+    pass_after : (v : ℕ) → (v ≡ previous → ⊥) → neighbour (passed_over t s).after v ≡ neighbour s.after v
     unfolding passed_over
-    pass-after v other = put_other s.after previous following v other
+    pass_after v other = put_other s.after previous following v other
 
-    pass-before : (v : ℕ) → (v ≡ following → ⊥) → neighbour (passed_over t s).before v ≡ neighbour s.before v
+    pass_before : (v : ℕ) → (v ≡ following → ⊥) → neighbour (passed_over t s).before v ≡ neighbour s.before v
     unfolding passed_over
-    pass-before v other = put_other s.before following previous v other
+    pass_before v other = put_other s.before following previous v other
 
-    pass-sizes : (length (passed_over t s).before ≡ room) × (length (passed_over t s).after ≡ room)
+    pass_sizes : (length (passed_over t s).before ≡ room) × (length (passed_over t s).after ≡ room)
     unfolding passed_over
-    pass-sizes = (length-put s.before following previous ∙ k.befores, length-put s.after previous following ∙ k.afters)
+    pass_sizes = (length-put s.before following previous ∙ k.befores, length-put s.after previous following ∙ k.afters)
 
     -- up to the timeslice, to the one that follows it
     up_to : (u : ℕ) → following ≡ u → Leads (passed_over t s) sentinel place.front u
     up_to u e =
-        ends_at s (passed_over t s) sentinel place.front t u left place.first (after-previous ∙ e)
-        (ap (neighbour (passed_over t s).before) (sym e) ∙ before-following)
-        (λ x i other. pass-after x other)
-        (λ x i. pass-before x (is-following (λ y. x ≡ y → ⊥) (λ e. absurd (omega (arith, k.low x (fronts x i))))
+        ends_at s (passed_over t s) sentinel place.front t u left place.first (after_previous ∙ e)
+        (ap (neighbour (passed_over t s).before) (sym e) ∙ before_following)
+        (λ x i other. pass_after x other)
+        (λ x i. pass_before x (is_following (λ y. x ≡ y → ⊥) (λ e. absurd (omega (arith, k.low x (fronts x i))))
         (λ y j e. unlike y x place.back j (member_none x t place.back (apart x i)) (sym e))))
 
     closes : (ys : List ℕ) → place.back ≡ ys → Leads (passed_over t s) sentinel (place.front ++ ys) sentinel
@@ -227,31 +227,31 @@ module _ (s : Sides) (order : List ℕ) (k : Chained s order) where
         let this : following ≡ y = r.0 in
         through (passed_over t s) sentinel place.front y ys sentinel (up_to y this)
         (kept s (passed_over t s) y ys sentinel r.2
-        (λ x i. pass-after x (is-previous (λ z. x ≡ z → ⊥)
+        (λ x i. pass_after x (is_previous (λ z. x ≡ z → ⊥)
         (λ z. absurd (omega (arith, k.low x (backs x (on x i)))))
         (λ z j q. unlike x z place.back (on x i) (member_none z t place.back (apart z j)) q)))
-        (λ x i. pass-before x (λ q. unlike x y ys i (not_again s sentinel y ys r.2 own) (q ∙ this)))
-        (pass-before sentinel (λ q. absurd (omega (arith, k.low y (backs y (on y (member_here y y ys refl))), q, this)))))
+        (λ x i. pass_before x (λ q. unlike x y ys i (not_again s sentinel y ys r.2 own) (q ∙ this)))
+        (pass_before sentinel (λ q. absurd (omega (arith, k.low y (backs y (on y (member_here y y ys refl))), q, this)))))
 
-    still-low : (x : ℕ) → member x (without t order) ≡ true → x < limit
-    still-low x i =
+    still_low : (x : ℕ) → member x (without t order) ≡ true → x < limit
+    still_low x i =
         k.low x (sym (member_without_other t x order (unlike x t (without t order) i (member_without t order listed_once))) ∙ i)
 
-    pass-chained : Chained (passed_over t s) (without t order)
-    pass-chained =
+    pass_chained : Chained (passed_over t s) (without t order)
+    pass_chained =
         record {
-          befores = pass-sizes.0;
-          afters = pass-sizes.1;
+          befores = pass_sizes.0;
+          afters = pass_sizes.1;
           path = subst (λ (l : List ℕ). Leads (passed_over t s) sentinel l sentinel) (sym place.rest) (closes place.back refl);
-          low = still-low;
+          low = still_low;
         }
 
     -- the free entries of others stay
-    pass-free : (v : ℕ) → v < limit → member v order ≡ false
+    pass_free : (v : ℕ) → v < limit → member v order ≡ false
         → (neighbour (passed_over t s).before v ≡ neighbour s.before v) × (neighbour (passed_over t s).after v ≡ neighbour s.after v)
-    pass-free v low none = (
-      pass-before v (is-following (λ x. v ≡ x → ⊥) (λ e. absurd (omega arith)) (λ x i e. unlike x v order (backs x i) none (sym e))),
-      pass-after v (is-previous (λ x. v ≡ x → ⊥) (λ e. absurd (omega arith)) (λ x i e. unlike x v order (fronts x i) none (sym e))),
+    pass_free v low none = (
+      pass_before v (is_following (λ x. v ≡ x → ⊥) (λ e. absurd (omega arith)) (λ x i e. unlike x v order (backs x i) none (sym e))),
+      pass_after v (is_previous (λ x. v ≡ x → ⊥) (λ e. absurd (omega arith)) (λ x i e. unlike x v order (fronts x i) none (sym e))),
     )
 
 -- LAST IN TURN ORDER
@@ -276,7 +276,7 @@ pub strike_links : (s : Sides) (order : List ℕ) (t : ℕ) → Linked s order �
 unfolding struck_out
 strike_links s order t k h =
     let c = chained s order k in
-    let p = pass-chained s order c t h in
+    let p = pass_chained s order c t h in
     let small = c.low t h in
     let gone = member_without t order (listed_once s order c) in
     record {
@@ -300,7 +300,7 @@ strike_links s order t k h =
     )
     by c p v low none (different apart _) =
         let before : member v order ≡ false = sym (member_without_other t v order apart) ∙ none in
-        let same = pass-free s order c t h v low before in (
+        let same = pass_free s order c t h v low before in (
           put_other _ t unlisted v apart ∙ same.0 ∙ (k.free v low before).0,
           put_other _ t unlisted v apart ∙ same.1 ∙ (k.free v low before).1,
         )
@@ -310,7 +310,7 @@ pub back_links : (s : Sides) (order : List ℕ) (t : ℕ) → Linked s order →
 unfolding moved_back to_back
 back_links s order t k h =
     let c = chained s order k in
-    let p = pass-chained s order c t h in
+    let p = pass_chained s order c t h in
     let small = c.low t h in
     let gone = member_without t order (listed_once s order c) in
     let b = append-chained (passed_over t s) (without t order) p t small gone in
@@ -323,7 +323,7 @@ back_links s order t k h =
           let apart : v ≡ t → ⊥ = λ e. unlike t v (last t (without t order)) (member_last t (without t order)) none (sym e) in
           let rest : member v (without t order) ≡ false = sym (member_last_other t v (without t order) apart) ∙ none in
           let before : member v order ≡ false = sym (member_without_other t v order apart) ∙ rest in
-          let passed = pass-free s order c t h v low before in
+          let passed = pass_free s order c t h v low before in
           let same = append-free (passed_over t s) (without t order) p t small gone v low rest apart in
           (same.0 ∙ passed.0 ∙ (k.free v low before).0, same.1 ∙ passed.1 ∙ (k.free v low before).1);
     }
@@ -336,12 +336,12 @@ appends s s' t e = (
   λ order k when.
       subst (λ (x : Sides). Linked x (last t order)) (sym e)
       (append-links s order t k (ltb-true t limit (and_true_left (ltb t limit) (not (member t order)) when))
-      (not-listed-here (member t order) (and_true_right (ltb t limit) (not (member t order)) when))),
+      (not_listed_here (member t order) (and_true_right (ltb t limit) (not (member t order)) when))),
 )
   where
-    not-listed-here : (b : Bool) → not b ≡ true → b ≡ false
-    not-listed-here true e = clash false e refl
-    not-listed-here false e = refl
+    not_listed_here : (b : Bool) → not b ≡ true → b ≡ false
+    not_listed_here true e = clash false e refl
+    not_listed_here false e = refl
 
 pub strikes : (s s' : Sides) (t : ℕ) → s' ≡ struck_out t s → (s' ≡ struck_out t s) × Changes (member t) (without t) s s'
 strikes s s' t e = (e, λ order k when. subst (λ (x : Sides). Linked x (without t order)) (sym e) (strike_links s order t k when))

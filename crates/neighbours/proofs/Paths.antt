@@ -121,14 +121,14 @@ module _ (s : Sides) (b : ℕ) where
       again k =
           let path : Leads s a (k.front ++ a ∷ k.back) b = subst (λ (l : List ℕ). Leads s a l b) k.is r in
           let ends : member b (k.front ++ a ∷ k.back) ≡ false = subst (λ (l : List ℕ). member b l ≡ false) k.is end in
-          let behind : member b k.back ≡ false = behind-too k.front ends in
+          let behind : member b k.back ≡ false = behind_too k.front ends in
           let rest = from_it s a k.front a k.back b path in
           let as_long = ap length (one_path s a (k.front ++ a ∷ k.back) k.back b path rest ends behind) in
           absurd (omega (arith, as_long, length-append k.front (a ∷ k.back)))
         where
-          behind-too : (l : List ℕ) → member b (l ++ a ∷ k.back) ≡ false → member b k.back ≡ false
-          behind-too [] h = member_none b a k.back h
-          behind-too (x ∷ l) h = behind-too l (member_none b x (l ++ a ∷ k.back) h)
+          behind_too : (l : List ℕ) → member b (l ++ a ∷ k.back) ≡ false → member b k.back ≡ false
+          behind_too [] h = member_none b a k.back h
+          behind_too (x ∷ l) h = behind_too l (member_none b x (l ++ a ∷ k.back) h)
 
   -- so it comes to no timeslice twice
   pub once : (a : ℕ) (xs : List ℕ) → Leads s a xs b → member b xs ≡ false → distinct xs ≡ true

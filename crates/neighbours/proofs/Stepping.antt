@@ -76,8 +76,8 @@ module _ (after : List ℕ) (live n : ℕ) where
     both_ways = sym (turn_from (n - i) after at t (omega arith) e) ∙ r.left ∙ drop-cons (turns_read after live) i 0 long
 
     -- the next timeslice of the turn order
-    pub read-this : t ≡ get_or (turns_read after live) i 0
-    read-this = cc both_ways
+    pub read_this : t ≡ get_or (turns_read after live) i 0
+    read_this = cc both_ways
 
     pub read_one : Read after live n t (i + 1)
     read_one =

@@ -137,9 +137,9 @@ entry side i h = rw (lt-ltb i room h) refl
 pub linked_same : (s s' : Sides) (order : List ℕ) → Linked s order → Linked s' order → s ≡ s'
 linked_same s s' order k q =
     let before : s.before ≡ s'.before =
-    ext_get_or 0 s.before s'.before (k.befores ∙ sym q.befores) (λ i h. entry-before i (omega (arith, k.befores))) in
+    ext_get_or 0 s.before s'.before (k.befores ∙ sym q.befores) (λ i h. entry_before i (omega (arith, k.befores))) in
     let after : s.after ≡ s'.after =
-    ext_get_or 0 s.after s'.after (k.afters ∙ sym q.afters) (λ i h. entry-after i (omega (arith, k.afters))) in
+    ext_get_or 0 s.after s'.after (k.afters ∙ sym q.afters) (λ i h. entry_after i (omega (arith, k.afters))) in
     λ i. sides (before i) (after i)
   where
     at_before : (i : ℕ) → i < room → Two (member i order) → neighbour s.before i ≡ neighbour s'.before i
@@ -158,8 +158,8 @@ linked_same s s' order k q =
         ⊎_elim (λ own. same_afters s s' sentinel order sentinel k.path q.path i (member_here i sentinel order own))
         (λ small. (k.free i small e).1 ∙ sym (q.free i small e).1) (eq-or-lt_of_le le)
 
-    entry-before : (i : ℕ) → i < room → get_or s.before i 0 ≡ get_or s'.before i 0
-    entry-before i h = sym (entry s.before i h) ∙ at_before i h (two (member i order)) ∙ entry s'.before i h
+    entry_before : (i : ℕ) → i < room → get_or s.before i 0 ≡ get_or s'.before i 0
+    entry_before i h = sym (entry s.before i h) ∙ at_before i h (two (member i order)) ∙ entry s'.before i h
 
-    entry-after : (i : ℕ) → i < room → get_or s.after i 0 ≡ get_or s'.after i 0
-    entry-after i h = sym (entry s.after i h) ∙ at_after i h (two (member i order)) ∙ entry s'.after i h
+    entry_after : (i : ℕ) → i < room → get_or s.after i 0 ≡ get_or s'.after i 0
+    entry_after i h = sym (entry s.after i h) ∙ at_after i h (two (member i order)) ∙ entry s'.after i h

@@ -16,7 +16,7 @@ use Rattle.text.proofs.Puts.{reading}
 use Rattle.text.proofs.Putting.{Going, begin, more}
 use Rattle.text.proofs.Putting as putting
 use Rattle.replay.specs.Running.{Ready}
-use Rattle.replay.proofs.Inputs.{file-accepted}
+use Rattle.replay.proofs.Inputs.{file_accepted}
 use Rattle.abort_orders.specs.declared.Store.{Store}
 use Rattle.abort_orders.specs.Orders.{empty_store}
 use Rattle.orders_sheet.specs.declared.Command.{Command}
@@ -71,7 +71,7 @@ command_none input out {file} {store} {m} {left} narrow accepted is-file no-orde
       few = omega (arith, count, narrow 0);
       ready =
           record {
-            left = all_left file (ap file_refusal is-file ∙ file-accepted (file_at input) input accepted);
+            left = all_left file (ap file_refusal is-file ∙ file_accepted (file_at input) input accepted);
             sound = ap sound_machine is-empty ∙ empty_machine_sound;
           };
       going = putting.same_left (begin out 0 (command_lines 1 (commands_in input) (at_first input))) (sym whole);

@@ -27,14 +27,14 @@ module _ (c : Command) (w : Stand) where
   aborts_done e = rw (eq-eqb c.op 0 e) refl
 
   module _ (no_Abort : c.op ≡ 0 → ⊥) where
-    withdraws-done : c.op ≡ 1 → done c w ≡ after_given (give_withdraw w.store c.thread c.number) w
+    withdraws_done : c.op ≡ 1 → done c w ≡ after_given (give_withdraw w.store c.thread c.number) w
     unfolding done
-    withdraws-done e = rw (ne_eqb c.op 0 no_Abort, eq-eqb c.op 1 e) refl
+    withdraws_done e = rw (ne_eqb c.op 0 no_Abort, eq-eqb c.op 1 e) refl
 
     module _ (no-withdraw : c.op ≡ 1 → ⊥) where
-      takes-done : c.op ≡ 2 → done c w ≡ after_take (take_orders w.store w.state) w
+      takes_done : c.op ≡ 2 → done c w ≡ after_take (take_orders w.store w.state) w
       unfolding done
-      takes-done e = rw (ne_eqb c.op 0 no_Abort, ne_eqb c.op 1 no-withdraw, eq-eqb c.op 2 e) refl
+      takes_done e = rw (ne_eqb c.op 0 no_Abort, ne_eqb c.op 1 no-withdraw, eq-eqb c.op 2 e) refl
 
       runs_done : (c.op ≡ 2 → ⊥) → done c w ≡ after_events c.thread w
       unfolding done
@@ -57,7 +57,7 @@ module _ {file : List ℕ} {offset : ℕ} {m : Machine} (ready : Ready file offs
 
   pub obeys_withdraw : {g : Given} → (c.op ≡ 0 → ⊥) → c.op ≡ 1 → g ≡ give_withdraw store c.thread c.number
       → Obeys (done c here) file (record { machine = m; store = g.store; offset = offset; refusal = g.refusal; last = 0 })
-  obeys_withdraw {g} no_Abort e is = given g (ap (λ (z : Given). after_given z here) is ∙ sym (withdraws-done c here no_Abort e))
+  obeys_withdraw {g} no_Abort e is = given g (ap (λ (z : Given). after_given z here) is ∙ sym (withdraws_done c here no_Abort e))
 
   -- a sound machine's take is the definitions'
   pub obeys_take : {r : Taken} → (c.op ≡ 0 → ⊥) → (c.op ≡ 1 → ⊥) → c.op ≡ 2 → Takes store m r
@@ -66,7 +66,7 @@ module _ {file : List ℕ} {offset : ℕ} {m : Machine} (ready : Ready file offs
   obeys_take {r} no_Abort no-withdraw e t =
       let same : taken_of store m ≡ take_orders store (shown m) =
       ap (λ (q : Bool). take_if q store (shown m)) (ready.sound ∙ sym (sound_shown m ready.sound)) in
-      let is = ap (λ (z : orders.Taken). after_take z here) same ∙ sym (takes-done c here no_Abort no-withdraw e) in
+      let is = ap (λ (z : orders.Taken). after_take z here) same ∙ sym (takes_done c here no_Abort no-withdraw e) in
       subst (λ (z : Done). Obeys z file
       (record { machine = r.machine; store = r.store; offset = offset; refusal = r.refusal; last = r.count })) is
       (record {

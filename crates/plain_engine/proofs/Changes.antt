@@ -109,47 +109,47 @@ module _ (m : PlainMachine) where
   reply_to_lem t count q Orphan = refl
 
   module _ (n t count : ℕ) (run : m.running ≡ Runs n t count) where
-    pub call-donates : (server : ℕ) (ths : List Thread) → is_idle (hold_at m.threads server) ≡ true → ths ≡ donate n server m.threads
+    pub call_donates : (server : ℕ) (ths : List Thread) → is_idle (hold_at m.threads server) ≡ true → ths ≡ donate n server m.threads
         → Changed (Call server) m (threads_to ths m)
-    call-donates server ths idle new =
+    call_donates server ths idle new =
         ap (λ (l : List Thread). plain_threads l p) new
         ∙ call_idle server n t count (hold_at m.threads server) idle
         ∙ ap (λ (r : Running). plain_running m.running (plain_call server p r)) (sym run)
 
-    pub call-helps : (server : ℕ) (ths : List Thread) → is_idle (hold_at m.threads server) ≡ false
+    pub call_helps : (server : ℕ) (ths : List Thread) → is_idle (hold_at m.threads server) ≡ false
         → ths ≡ set_hold n (Helping server) m.threads → Changed (Call server) m (threads_to ths m)
-    call-helps server ths busy new =
+    call_helps server ths busy new =
         ap (λ (l : List Thread). plain_threads l p) new
         ∙ call_busy server n t count (hold_at m.threads server) busy
         ∙ ap (λ (r : Running). plain_running m.running (plain_call server p r)) (sym run)
 
-    pub reply-changes : (ths : List Thread) → ths ≡ replied n m.threads → Changed Reply m (threads_to ths m)
-    reply-changes ths new =
+    pub reply_changes : (ths : List Thread) → ths ≡ replied n m.threads → Changed Reply m (threads_to ths m)
+    reply_changes ths new =
         ap (λ (l : List Thread). plain_threads l p) new
         ∙ sym (reply_to_lem t count (plain_threads (replied n m.threads) p) (service_at m.threads n))
         ∙ ap (λ (r : Running). plain_running m.running (plain_reply p r)) (sym run)
 
-    pub block-changes : (ths : List Thread) → ths ≡ set_hold n Blocked m.threads → Changed Block m (threads_to ths m)
-    block-changes ths new =
+    pub block_changes : (ths : List Thread) → ths ≡ set_hold n Blocked m.threads → Changed Block m (threads_to ths m)
+    block_changes ths new =
         ap (λ (l : List Thread). plain_threads l p) new ∙ ap (λ (r : Running). plain_running m.running (plain_block p r)) (sym run)
 
     -- Charge: it is accepted, so the current timeslice has time left, and is listed
-    pub charge-fits : (units : ℕ) → Takes (Charge units) m → (1 ≤ units) × (units ≤ left_at m.slices t)
-    charge-fits units k =
+    pub charge_fits : (units : ℕ) → Takes (Charge units) m → (1 ≤ units) × (units ≤ left_at m.slices t)
+    charge_fits units k =
         let number = ap (λ (r : Running). nothing_runs r gives 5 else
         eqb units 0 || ltb (left_at m.slices (current_timeslice r)) units gives 11 else 0) run in
         let tests = or_false_both (eqb units 0) (ltb (left_at m.slices t) units) (passes _ 10 0 (sym number ∙ k.accepted)).0 in
         let some-units = eqb-false units 0 tests.0 in
         (omega (arith, some-units), ltb-false _ _ tests.1)
 
-    pub charge-listed : (units : ℕ) → Takes (Charge units) m → member t (take m.live m.order) ≡ true
-    charge-listed units k = by (two (member t (take m.live m.order)))
+    pub charge_listed : (units : ℕ) → Takes (Charge units) m → member t (take m.live m.order) ≡ true
+    charge_listed units k = by (two (member t (take m.live m.order)))
       where
         by : Two (member t (take m.live m.order)) → member t (take m.live m.order) ≡ true
         by (yes_true e) = e
         by (no_false e) =
             let nothing_left : left_at m.slices t ≡ 0 = ap (λ (x : Slice). x.left) ((shape_of p k.shape).turns.free t e) in
-            absurd (omega (arith, charge-fits units k, nothing_left))
+            absurd (omega (arith, charge_fits units k, nothing_left))
 
     -- at 0 to the back
     module _ (units : ℕ) (x : Slice) (read : x ≡ slice_at m.slices t) (ss : List Slice)
@@ -170,14 +170,14 @@ module _ (m : PlainMachine) where
             ap (λ (c : Bool). plain_running m.running (charged_to c)) (e ∙ ap (λ (y : Slice). eqb y.left units) read)
             ∙ ap (λ (r : Running). plain_running m.running (plain_charge units p r)) (sym run)
 
-        pub charge-spends : (x.left ≡ units → ⊥) → Changed (Charge units) m (turns_to ss m.order m.live m)
-        charge-spends o =
+        pub charge_spends : (x.left ≡ units → ⊥) → Changed (Charge units) m (turns_to ss m.order m.live m)
+        charge_spends o =
             ap (λ (l : List Slice). plain_timeslices l p.order p) charges ∙ said false (sym (ne_eqb x.left units o))
 
-        pub charge-depletes : (back : List ℕ) → x.left ≡ units → member t p.order ≡ true → Turned t m.live m.order back
+        pub charge_depletes : (back : List ℕ) → x.left ≡ units → member t p.order ≡ true → Turned t m.live m.order back
             → Changed (Charge units) m (turns_to ss back m.live m)
         unfolding to_back
-        charge-depletes back e listed d =
+        charge_depletes back e listed d =
             let order : take m.live back ≡ last t (without t p.order) = rw listed at d.turns in
             (λ k. record { threads = m.threads; slices = charges k; order = order k; running = m.running })
             ∙ said true (sym (eq-eqb x.left units e))
@@ -227,11 +227,11 @@ module _ (m : PlainMachine) where
     pub some_live : 1 ≤ m.live
     some_live = omega (arith, one_less)
 
-    pub remove-changes : (ths : List Thread) (ss : List Slice) (rest : List ℕ) (k : ℕ) → ths ≡ removed n m.threads
+    pub remove_changes : (ths : List Thread) (ss : List Slice) (rest : List ℕ) (k : ℕ) → ths ≡ removed n m.threads
         → ss ≡ set m.slices t free_slice → StruckOut t m.live m.order rest → k ≡ entries_of m.live - 1
         → Changed (Remove n) m (threads_to ths (turns_to ss rest k m))
     unfolding struck last
-    remove-changes ths ss rest k new slot d less =
+    remove_changes ths ss rest k new slot d less =
         let turns = without t p.order in
         let few : k ≡ length turns = omega (arith, one_less) in
         let entries : take m.live rest ≡ turns ++ (0 ∷ []) = rw listed at d.turns in

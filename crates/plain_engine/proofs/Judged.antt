@@ -26,9 +26,9 @@ module _ (threads : List Thread) (slices : List Slice) (order : List ℕ) (live 
     pub found : sought_of top ≡ top_from i
 
   module _ (full : length order ≡ 128) where
-    pub none-judged : (i : ℕ) → i ≡ entries_of live → JudgedFrom i Nothing
+    pub none_judged : (i : ℕ) → i ≡ entries_of live → JudgedFrom i Nothing
     unfolding topmost
-    none-judged i e =
+    none_judged i e =
         let past : entries_of live ≤ i = omega arith in
         record {
           inside = omega arith;
@@ -49,8 +49,8 @@ module _ (threads : List Thread) (slices : List Slice) (order : List ℕ) (live 
           ap (topmost slices (λ t. may_run threads slices t)) (turn order live (i - 1) full short)
           ∙ ap (λ (k : ℕ). cond (may_run threads slices next) (upper slices next (top_from k)) (top_from k)) after
 
-      pub one-taken : (top' : Sought) → may ≡ true → sought_of top' ≡ upper slices next (sought_of top) → JudgedFrom (i - 1) top'
-      one-taken top' taken e =
+      pub one_taken : (top' : Sought) → may ≡ true → sought_of top' ≡ upper slices next (sought_of top) → JudgedFrom (i - 1) top'
+      one_taken top' taken e =
           let runs : may_run threads slices next ≡ true = sym said ∙ taken in
           record {
             inside = omega (arith, j.inside);
@@ -62,6 +62,6 @@ module _ (threads : List Thread) (slices : List Slice) (order : List ℕ) (live 
           let stays : may_run threads slices next ≡ false = sym said ∙ left in
           record { inside = omega (arith, j.inside); found = j.found ∙ sym (rw stays at here) }
 
-    pub all-judged : (i : ℕ) (top : Sought) → JudgedFrom i top → i ≡ 0
+    pub all_judged : (i : ℕ) (top : Sought) → JudgedFrom i top → i ≡ 0
         → sought_of top ≡ topmost slices (λ t. may_run threads slices t) (take live order)
-    all-judged i top j e = j.found ∙ ap top_from e
+    all_judged i top j e = j.found ∙ ap top_from e

@@ -59,14 +59,14 @@ module _ {all : Plain} (rounds : ℕ) (m : PlainMachine) (j : Judging all rounds
         let end : w ≡ verdict m.threads (chain_of m.threads m.slices t) = sym s ∙ said ∙ ap (verdict m.threads) chain in
         ap₂ (judge_by (λ q. judge_from (rounds - 1) q) (plain_shown m) t) chain end ∙ rw is at (round o e)
 
-    pub one-runs : v ≡ runs → plain_running (Runs c.end t c.count) (plain_shown m) ≡ all
-    one-runs s = by runs s
+    pub one_runs : v ≡ runs → plain_running (Runs c.end t c.count) (plain_shown m) ≡ all
+    one_runs s = by runs s
 
-    pub one-retries : (ths : List Thread) → v ≡ retries → ths ≡ donate c.helper c.end m.threads
+    pub one_retries : (ths : List Thread) → v ≡ retries → ths ≡ donate c.helper c.end m.threads
         → Judging all (rounds - 1) (threads_to ths m)
-    one-retries ths s new = ap (λ (l : List Thread). judge_from (rounds - 1) (plain_shown (threads_to l m))) new ∙ by retries s
+    one_retries ths s new = ap (λ (l : List Thread). judge_from (rounds - 1) (plain_shown (threads_to l m))) new ∙ by retries s
 
     -- it does not arise, since the topmost may run
-    pub one-stays : (f : Said) → (f ≡ Waits) ⊎ (f ≡ Stalls) → v ≡ verdict_of f → plain_shown m ≡ all
-    one-stays f (inl e) s = by waits (s ∙ ap verdict_of e)
-    one-stays f (inr e) s = by stalls (s ∙ ap verdict_of e)
+    pub one_stays : (f : Said) → (f ≡ Waits) ⊎ (f ≡ Stalls) → v ≡ verdict_of f → plain_shown m ≡ all
+    one_stays f (inl e) s = by waits (s ∙ ap verdict_of e)
+    one_stays f (inr e) s = by stalls (s ∙ ap verdict_of e)

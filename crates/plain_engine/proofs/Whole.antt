@@ -60,8 +60,8 @@ module _ (p : Plain) where
 
   module _ (full : length p.threads ≡ 128) (long : length p.slices ≡ 128) where
     -- from what the code joins to the whole test
-    to-shaped : joined ≡ true → shaped p ≡ true
-    to-shaped e =
+    to_shaped : joined ≡ true → shaped p ≡ true
+    to_shaped e =
         let x = and4 (below limit slot) (all turn turns) (distinct turns) (distinct owners) e in
         let at : (n : ℕ) → n < limit
         → (calling n ≡ true) × (linking n ≡ true) × (idling n ≡ true) × (freed n ≡ true) × (unlisted n ≡ true) =
@@ -82,8 +82,8 @@ module _ (p : Plain) where
         }
 
     -- and back
-    from-shaped : shaped p ≡ true → joined ≡ true
-    from-shaped e =
+    from_shaped : shaped p ≡ true → joined ≡ true
+    from_shaped e =
         let c = clauses p e in
         let at : (n : ℕ) → n < limit → slot n ≡ true =
         λ n h.
@@ -106,4 +106,4 @@ module _ (p : Plain) where
         simp (slots, places, once, apart)
 
     pub whole : joined ≡ shaped p
-    whole = same_test joined (shaped p) to-shaped from-shaped
+    whole = same_test joined (shaped p) to_shaped from_shaped

@@ -1,5 +1,5 @@
 // Document 01, "The plain machine": "An accepted event changes those as under Events, with no release and no choice." What runs is left to
-// the judging that follows, which says it anew: `judge-anew`, in rules.
+// the judging that follows, which says it anew: `judge_anew`, in rules.
 ghost use Rattle.std.specs.Prelude.{◌-◌, ◌≤◌, ◌≡◌};
 ghost use Rattle.rules.specs.declared.Event.TheVariants.{Create, Give, Call, Reply, Block, Wake, Charge, Abort, Refill, Remove, Rank};
 ghost use Rattle.tables.specs.Turning.{entries_of};

@@ -14,7 +14,7 @@ use text::{INPUT, file_buffer, put_file_line};
 pub const ROOM: usize = 1048576;
 
 // A buffer for what is read. Of an input of any length it holds enough: the key of that much is the key of the whole
-// (`enough-for-plain-key`, in crate text).
+// (`enough_for_plain_key`, in crate text).
 pub fn input() -> [u8; INPUT]
     ensures { (b : List ℕ) → plain_key (take (length result) b) ≡ plain_key b }
 {

@@ -10,7 +10,7 @@ use Rattle.ranking_table.specs.Ranking.{fault, answer_by, lookup}
 use Rattle.text.specs.Put.{Put}
 use Rattle.text.proofs.Putting.{Going, begin, more, done}
 use Rattle.ranking_sheet.specs.Sheet.{word_at, intervals_at, intervals_from, intervals_in, input_refusal, answer_line, answer_lines}
-use Rattle.ranking_sheet.proofs.Inputs.{not-long, not_short}
+use Rattle.ranking_sheet.proofs.Inputs.{not_long, not_short}
 
 pub record Answering (b : List ℕ) (rows : List Row) (before now : List ℕ) (place left at : ℕ) : Type 0 where
   pub inside : place + 2 * left ≤ 65536
@@ -20,7 +20,7 @@ pub answer_none : (b : List ℕ) (rows : List Row) (out : List ℕ) {place left 
     → left ≡ (length b - place) / 2 → Answering b rows out out place left 0
 answer_none b rows out {place} {left} accepted p e =
     record {
-      inside = omega (arith, not-long b accepted, not_short b accepted);
+      inside = omega (arith, not_long b accepted, not_short b accepted);
       going = rw (e, p) (begin out 0 (answer_lines rows (intervals_in b)));
     }
 

@@ -50,8 +50,8 @@ module _ (b : List ℕ) where
 
   -- what an accepted input is known by
   module _ (accepted : input_refusal b ≡ 0) where
-    pub not-long : length b ≤ 65536
-    not-long = by (two long)
+    pub not_long : length b ≤ 65536
+    not_long = by (two long)
       where
         by : Two long → length b ≤ 65536
         by (yes_true e) = absurd (omega (arith, accepted, too_long (ltb-true 65536 (length b) e)))

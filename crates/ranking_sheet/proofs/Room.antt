@@ -19,7 +19,7 @@ use Rattle.ranking_table.specs.Good.{row_at, Judged, too_many, bad_row_lem, over
 use Rattle.ranking_table.proofs.Rankings.{lookup_true}
 use Rattle.ranking_sheet.specs.Sheet.{rows_from, rows_in, intervals_at, intervals_from, intervals_in, input_refusal}
 use Rattle.ranking_sheet.specs.Sheet.{answer_line, answer_lines, ranking_after, ranking}
-use Rattle.ranking_sheet.proofs.Inputs.{too_long, not-long}
+use Rattle.ranking_sheet.proofs.Inputs.{too_long, not_long}
 
 -- the figures of an answer
 record Small (a : Answer) : Type 0 where
@@ -77,7 +77,7 @@ module _ (b : List ℕ) (narrow : Bytes b) where
         arith,
         lines_length (rows_in b) (λ k. priorities (get_or b 0 0) 1 k) (intervals_in b),
         intervals_length ((length b - intervals_at b) / 2) (intervals_at b),
-        not-long b h,
+        not_long b h,
       )
   fits_after (suc n) h small-number = omega (arith, file_line_length (suc n) small-number)
 

@@ -12,11 +12,11 @@ use answers::put_answers;
 use reading::{input_refusal, read_table};
 use text::{INPUT, file_buffer, put_file_line};
 
-// Room for the answers to every input: `ranking-fits`, proofs/Room.antt.
+// Room for the answers to every input: `ranking_fits`, proofs/Room.antt.
 pub const ROOM: usize = 425984;
 
 // A buffer for what is read. Of an input of any length it holds enough: the answers to that much are the answers to the whole
-// (`enough-for-ranking`, proofs/Room.antt).
+// (`enough_for_ranking`, proofs/Room.antt).
 pub fn input() -> [u8; INPUT]
     ensures { (b : List ℕ) → ranking (take (length result) b) ≡ ranking b }
 {

@@ -23,18 +23,18 @@ module _ (rows : List Row) where
   row_fault e = rw e refl
 
   module _ (few : length rows ≤ 64) (good : any_bad rows ≡ false) where
-    pub overlap-fault : overlap rows ≤ 60000 → fault rows ≡ refused 24 (overlap rows)
+    pub overlap_fault : overlap rows ≤ 60000 → fault rows ≡ refused 24 (overlap rows)
     unfolding fault
-    overlap-fault h = rw (good, le-ltb 64 (length rows) few, le-leb (overlap rows) 60000 h) refl
+    overlap_fault h = rw (good, le-ltb 64 (length rows) few, le-leb (overlap rows) 60000 h) refl
 
     module _ (apart : 60000 < overlap rows) where
-      pub gap-fault : gap rows ≤ 60000 → fault rows ≡ refused 25 (gap rows)
+      pub gap_fault : gap rows ≤ 60000 → fault rows ≡ refused 25 (gap rows)
       unfolding fault
-      gap-fault h = rw (good, le-ltb 64 (length rows) few, lt-leb (overlap rows) 60000 apart, le-leb (gap rows) 60000 h) refl
+      gap_fault h = rw (good, le-ltb 64 (length rows) few, lt-leb (overlap rows) 60000 apart, le-leb (gap rows) 60000 h) refl
 
-      pub no-fault : 60000 < gap rows → fault rows ≡ accepted 0
+      pub no_fault : 60000 < gap rows → fault rows ≡ accepted 0
       unfolding fault
-      no-fault h = rw (good, le-ltb 64 (length rows) few, lt-leb (overlap rows) 60000 apart, lt-leb (gap rows) 60000 h) refl
+      no_fault h = rw (good, le-ltb 64 (length rows) few, lt-leb (overlap rows) 60000 apart, lt-leb (gap rows) 60000 h) refl
 
 -- the first n rows of an array
 module _ (rows : List Row) (n : ℕ) (full : length rows ≡ 255) where

@@ -92,8 +92,8 @@ module _ {A : Type 0} (answer : List Row → A) where
         }
 
     -- no row is left
-    pub open-last : n ≤ k → answer [] ≡ answer (take n rows)
-    open-last out = ap answer (sym (last o.passed out)) ∙ o.same
+    pub open_last : n ≤ k → answer [] ≡ answer (take n rows)
+    open_last out = ap answer (sym (last o.passed out)) ∙ o.same
 
 -- a bad row settles that there is one, and a row that holds the interval settles the priority
 pub bad_here : (row : Row) → bad_row row ≡ true → (rest : List Row) → any_bad (row ∷ rest) ≡ true

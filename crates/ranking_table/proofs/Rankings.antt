@@ -1,6 +1,6 @@
--- THE THEOREMS of request [10]. `fault-true` and `lookup-true`: what every table is judged to be, and what every lookup in it answers, is
--- what document 02 asks, by the rows that hold an interval. `good-exactly`: the good tables are exactly those in which every interval is
--- in exactly one row. `finds`: there a lookup finds its row. `overlap-at-a-first` and `gap-after-a-last`: where the interval of an overlap
+-- THE THEOREMS of request [10]. `fault_true` and `lookup_true`: what every table is judged to be, and what every lookup in it answers, is
+-- what document 02 asks, by the rows that hold an interval. `good_exactly`: the good tables are exactly those in which every interval is
+-- in exactly one row. `finds`: there a lookup finds its row. `overlap_at_a_first` and `gap_after_a_last`: where the interval of an overlap
 -- or a gap can be, which is why the cost grows with the rows alone.
 use Prim.Native.Nat.{ℕ, zero, suc, ◌+◌, ◌≤◌, ◌<◌}
 use native.Mathlib.Omega.{arith}
@@ -24,7 +24,7 @@ use Rattle.ranking_table.proofs.Counting.{not_two, priority_of}
 use Rattle.ranking_table.proofs.Searching.{Smallest, smallest_is, Candidate}
 use Rattle.ranking_table.proofs.Ends.{Has, first_of, begins, follows, first_below, last_below}
 use Rattle.ranking_table.proofs.BadRows.{interval_of, of_interval, all_within, none_bad, none_at_0, bad_of}
-use Rattle.ranking_table.proofs.Judging.{many_fault, row_fault, overlap-fault, gap-fault, no-fault}
+use Rattle.ranking_table.proofs.Judging.{many_fault, row_fault, overlap_fault, gap_fault, no_fault}
 
 -- an interval, and the smallest that a test takes
 module _ (test : ℕ → Bool) (P : ℕ → Type 0) (of : (i : ℕ) → test i ≡ true → P i) (to : (i : ℕ) → P i → test i ≡ true) where
@@ -85,30 +85,30 @@ module _ (rows : List Row) where
 
   -- what is wrong with a table
   pub fault_true : Judged rows (fault rows)
-  fault_true = by-many (two (ltb 64 (length rows)))
+  fault_true = by_many (two (ltb 64 (length rows)))
     where
-      by-gap : (few : length rows ≤ 64) (fine : any_bad rows ≡ false) → 60000 < overlap rows → Two (leb (gap rows) 60000)
+      by_gap : (few : length rows ≤ 64) (fine : any_bad rows ≡ false) → 60000 < overlap rows → Two (leb (gap rows) 60000)
           → Judged rows (fault rows)
-      by-gap few fine apart (yes_true h) =
+      by_gap few fine apart (yes_true h) =
           let inside = leb-true (gap rows) 60000 h in
-          rw (gap-fault rows few fine apart inside) (gaping (gap rows) (formed_of few fine) (smallest_gap inside) (no_overlap apart))
-      by-gap few fine apart (no_false h) =
+          rw (gap_fault rows few fine apart inside) (gaping (gap rows) (formed_of few fine) (smallest_gap inside) (no_overlap apart))
+      by_gap few fine apart (no_false h) =
           let covered = leb-false (gap rows) 60000 h in
-          rw (no-fault rows few fine apart covered) (good (good_of (formed_of few fine) apart covered))
+          rw (no_fault rows few fine apart covered) (good (good_of (formed_of few fine) apart covered))
 
-      by-overlap : (few : length rows ≤ 64) (fine : any_bad rows ≡ false) → Two (leb (overlap rows) 60000) → Judged rows (fault rows)
-      by-overlap few fine (yes_true h) =
+      by_overlap : (few : length rows ≤ 64) (fine : any_bad rows ≡ false) → Two (leb (overlap rows) 60000) → Judged rows (fault rows)
+      by_overlap few fine (yes_true h) =
           let inside = leb-true (overlap rows) 60000 h in
-          rw (overlap-fault rows few fine inside) (overlapping (overlap rows) (formed_of few fine) (smallest_overlap inside))
-      by-overlap few fine (no_false h) = by-gap few fine (leb-false (overlap rows) 60000 h) (two (leb (gap rows) 60000))
+          rw (overlap_fault rows few fine inside) (overlapping (overlap rows) (formed_of few fine) (smallest_overlap inside))
+      by_overlap few fine (no_false h) = by_gap few fine (leb-false (overlap rows) 60000 h) (two (leb (gap rows) 60000))
 
-      by-bad : (few : length rows ≤ 64) → Two (any_bad rows) → Judged rows (fault rows)
-      by-bad few (yes_true h) = rw (row_fault rows h) (bad_row_lem (bad_of rows h))
-      by-bad few (no_false h) = by-overlap few h (two (leb (overlap rows) 60000))
+      by_bad : (few : length rows ≤ 64) → Two (any_bad rows) → Judged rows (fault rows)
+      by_bad few (yes_true h) = rw (row_fault rows h) (bad_row_lem (bad_of rows h))
+      by_bad few (no_false h) = by_overlap few h (two (leb (overlap rows) 60000))
 
-      by-many : Two (ltb 64 (length rows)) → Judged rows (fault rows)
-      by-many (yes_true h) = let more = ltb-true 64 (length rows) h in rw (many_fault rows more) (too_many more)
-      by-many (no_false h) = by-bad (ltb-false 64 (length rows) h) (two (any_bad rows))
+      by_many : Two (ltb 64 (length rows)) → Judged rows (fault rows)
+      by_many (yes_true h) = let more = ltb-true 64 (length rows) h in rw (many_fault rows more) (too_many more)
+      by_many (no_false h) = by_bad (ltb-false 64 (length rows) h) (two (any_bad rows))
 
   -- and what a lookup says then
   answer_true : (i : ℕ) {a : Answer} → Judged rows a → Outcome rows i (answer_by a rows i)

@@ -113,8 +113,8 @@ module _ (test : ℕ → Bool) (at : ℕ → ℕ) where
               ⊎_elim (λ q. absurd (omega (arith, ap at q))) (λ before. b.least j before (omega arith)) (eq-or-lt_of_le le);
         }
 
-    pub best-next : 1 ≤ at k → Best test at (k + 1) (better test best (at k))
-    best-next some = by (two (ltb (at k) best)) (two (test (at k)))
+    pub best_next : 1 ≤ at k → Best test at (k + 1) (better test best (at k))
+    best_next some = by (two (ltb (at k) best)) (two (test (at k)))
       where
         by : Two (ltb (at k) best) → Two (test (at k)) → Best test at (k + 1) (better test best (at k))
         by (yes_true l) (yes_true e) = rw (l, e) (next (ltb-true (at k) best l) some e)
@@ -122,8 +122,8 @@ module _ (test : ℕ → Bool) (at : ℕ → ℕ) where
         by (no_false l) _ = rw l (stays (λ less. absurd (omega (arith, ltb-false (at k) best l))))
 
     -- all are tried
-    pub best-of-all : ((i : ℕ) → 1 ≤ i → test i ≡ true → Candidate test at k i) → best ≡ smallest test
-    best-of-all descend =
+    pub best_of_all : ((i : ℕ) → 1 ≤ i → test i ≡ true → Candidate test at k i) → best ≡ smallest test
+    best_of_all descend =
         only_smallest test (record { low = b.low; high = b.high; takes = b.takes; first = λ j some less. by j some less (two (test j)) })
       where
         by : (j : ℕ) → 1 ≤ j → j < best → Two (test j) → test j ≡ false

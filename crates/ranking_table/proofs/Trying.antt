@@ -9,7 +9,7 @@ use lib.ListN.{length, take}
 use Rattle.ranking_table.specs.declared.Row.{Row}
 use Rattle.ranking_table.specs.Ranking.{any_bad, missing, in_two, overlap, gap}
 use Rattle.ranking_table.specs.Good.{row_at, better}
-use Rattle.ranking_table.proofs.Searching.{Best, best_none, best-next, best-of-all}
+use Rattle.ranking_table.proofs.Searching.{Best, best_none, best_next, best_of_all}
 use Rattle.ranking_table.proofs.Ends.{begins, follows, first_below, last_below}
 use Rattle.ranking_table.proofs.BadRows.{all_within, none_at_0}
 use Rattle.ranking_table.proofs.Passing.{Passed, one_passed, used_length, at}
@@ -45,14 +45,14 @@ module _ {rows : List Row} {n k best : ℕ} (t : Overlapping rows n k best) wher
       record {
         passed = one_passed t.passed short;
         good = t.good;
-        sought = rw is (best-next _ _ t.sought (omega (arith, starts_some short t.passed t.good, here)));
+        sought = rw is (best_next _ _ t.sought (omega (arith, starts_some short t.passed t.good, here)));
       }
 
   pub overlap_found : n ≤ k → best ≡ overlap (take n rows)
   overlap_found out =
       let all : k ≡ n = omega (arith, t.passed.inside) in
       let last : k ≡ length (take n rows) = omega (arith, all, used_length t.passed) in
-      best-of-all _ _ t.sought (λ i _ e. rw last (first_below (take n rows) (none_at_0 (take n rows) t.good) i e))
+      best_of_all _ _ t.sought (λ i _ e. rw last (first_below (take n rows) (none_at_0 (take n rows) t.good) i e))
 
 -- gaps: 1 is tried before the rows are
 abbrev pub Missed : List Row → ℕ → ℕ → ℕ → Type 0
@@ -64,7 +64,7 @@ gap_at_1 {rows} {n} p good e =
     record {
       passed = p;
       good = good;
-      sought = rw e (best-next (missing (take n rows)) (follows (take n rows)) (best_none _ _) (omega arith));
+      sought = rw e (best_next (missing (take n rows)) (follows (take n rows)) (best_none _ _) (omega arith));
     }
 
 module _ {rows : List Row} {n k best : ℕ} (t : Missed rows n k best) where
@@ -77,10 +77,10 @@ module _ {rows : List Row} {n k best : ℕ} (t : Missed rows n k best) where
       record {
         passed = one_passed t.passed short;
         good = t.good;
-        sought = rw is (best-next _ _ t.sought (omega (arith, here)));
+        sought = rw is (best_next _ _ t.sought (omega (arith, here)));
       }
 
   pub gap_found : n ≤ k → best ≡ gap (take n rows)
   gap_found out =
       let last : k + 1 ≡ suc (length (take n rows)) = omega (arith, t.passed.inside, used_length t.passed) in
-      best-of-all _ _ t.sought (λ i some e. rw last (last_below (take n rows) i some e))
+      best_of_all _ _ t.sought (λ i some e. rw last (last_below (take n rows) i some e))

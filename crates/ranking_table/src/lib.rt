@@ -3,7 +3,7 @@
 // lookup answer is defined in specs/Ranking.antt.
 //
 // The smallest interval in two rows is the first of a row; the smallest that is missing is 1, or comes right after the last of a row
-// (`overlap-at-a-first`, `gap-after-a-last`, proofs/Rankings.antt). So only these are tried, each against all rows: a table of n rows is
+// (`overlap_at_a_first`, `gap_after_a_last`, proofs/Rankings.antt). So only these are tried, each against all rows: a table of n rows is
 // judged in at most 2n(n + 2) looks at a row, and an interval is looked up in n, however long the rows are.
 ghost use Rattle.std.specs.Prelude.{◌≡◌};
 ghost use Rattle.ranking_table.specs.Ranking.{rows_of, refused, fault, answer_by, lookup};

@@ -43,10 +43,10 @@ module _ (input : List ℕ) (long : 4 ≤ length input) {file : List ℕ} (is-fi
         let none : no_such_event (number_in input) (file_in input) ≡ true = sym same_test ∙ not-false (no_such_event number file) h in
         sym (rw none) ∙ by_file 0 (sym accepted)
 
-    pub that-event : not (no_such_event number file) ≡ true → (s : State) → s ≡ machine_after number file
+    pub that_event : not (no_such_event number file) ≡ true → (s : State) → s ≡ machine_after number file
         → chain_line s s.running ++ cause_lines s (above s) ≡ reason input
     unfolding reason_of
-    that-event h s is =
+    that_event h s is =
         let one : no_such_event (number_in input) (file_in input) ≡ false = sym same_test ∙ not-true (no_such_event number file) h in
         let reached : s ≡ machine_after (number_in input) (file_in input) = is ∙ (λ i. machine_after (asked i) (is-file i)) in
         ap reason_of reached ∙ sym (rw one) ∙ by_file 0 (sym accepted)

@@ -15,10 +15,10 @@ use event_file::reader::file_refusal;
 use reached::reach;
 use text::put_file_line;
 
-// Room for the reason of every event: `reason-fits`, in crate text.
+// Room for the reason of every event: `reason_fits`, in crate text.
 pub const ROOM: usize = 4096;
 
-// The number's 4 bytes, and one byte more than a file may have: `enough-for-reason`, in crate text.
+// The number's 4 bytes, and one byte more than a file may have: `enough_for_reason`, in crate text.
 const INPUT: usize = 65541;
 
 fn zeros() -> [u8; INPUT]

@@ -35,8 +35,8 @@ module _ (at : ℕ) (input : List ℕ) where
     not_short =
         ltb-false (length input) at (passes (ltb (length input) at) 13 (file_refusal (drop at input)) accepted).0
 
-    pub file-accepted : file_refusal (drop at input) ≡ 0
-    file-accepted = sym (whole not_short) ∙ accepted
+    pub file_accepted : file_refusal (drop at input) ≡ 0
+    file_accepted = sym (whole not_short) ∙ accepted
 
   pub refused_small : refusal_behind at input ≤ 16
   unfolding refusal_behind

@@ -111,29 +111,29 @@ charged_now : (t : ℕ) (e : Event) (es : List Event) (s : State) (k : ℕ) (r :
 charged_now t e es s (suc k) r a q h = none_paid t h
 charged_now t e es s zero r a q h = by (charge_or e)
   where
-    units-by : (units : ℕ) → e ≡ Charge units → (r' : Running) → r ≡ r' → has_paid (paid_by r' units) t ≡ true → Charged t (e ∷ es) s
-    units-by units c Nothing z p = none_paid t p
-    units-by units c (Runs n u count) z p = only (listed t u [] p)
+    units_by : (units : ℕ) → e ≡ Charge units → (r' : Running) → r ≡ r' → has_paid (paid_by r' units) t ≡ true → Charged t (e ∷ es) s
+    units_by units c Nothing z p = none_paid t p
+    units_by units c (Runs n u count) z p = only (listed t u [] p)
       where
         only : Listed t u [] → Charged t (e ∷ es) s
         only (here same-slice) = now c (q ∙ z ∙ ap (λ (v : ℕ). Runs n v count) (sym same-slice)) a
         only (there n-one) = clash (member t []) n-one (not_listed t)
 
     by : ChargeOr e → Charged t (e ∷ es) s
-    by (is_charge units c) = units-by units c r refl (rw c at h)
+    by (is_charge units c) = units_by units c r refl (rw c at h)
     by (pays_nothing f) = none_paid t (rw (f r) at h)
 
 pub charged_of : (t : ℕ) (es : List Event) (s : State) → has_paid (paid_in es s) t ≡ true → Charged t es s
 unfolding run payments
 charged_of t [] s h = none_paid t h
 charged_of t (e ∷ es) s h =
-    by (or_true_cases (has_paid first-paid t) _ (sym (has_append first-paid (paid_in es (offer e s).state) t) ∙ h))
+    by (or_true_cases (has_paid first_paid t) _ (sym (has_append first_paid (paid_in es (offer e s).state) t) ∙ h))
     (charged_of t es (offer e s).state)
   where
-    first-paid : List Payment
-    first-paid = paid (offer e s).refusal s.running e
+    first_paid : List Payment
+    first_paid = paid (offer e s).refusal s.running e
 
-    by : Either (has_paid first-paid t) (has_paid (paid_in es (offer e s).state) t)
+    by : Either (has_paid first_paid t) (has_paid (paid_in es (offer e s).state) t)
         → (has_paid (paid_in es (offer e s).state) t ≡ true → Charged t es (offer e s).state) → Charged t (e ∷ es) s
     by (first p) r = charged_now t e es s (offer e s).refusal s.running refl refl p
     by (second _ p) r = later (r p)
@@ -143,14 +143,14 @@ pub of_charged : (t : ℕ) (es : List Event) (s : State) → Charged t es s → 
 unfolding run payments
 of_charged t [] s x = elim x [ ]
 of_charged t (e ∷ es) s (now c q a) =
-    let first-paid = paid (offer e s).refusal s.running e in
+    let first_paid = paid (offer e s).refusal s.running e in
     let rest = paid_in es (offer e s).state in
-    let has : has_paid first-paid t ≡ true = rw (a, q, c) (member_here t t [] refl) in
-    has_append first-paid rest t ∙ or_true_left (has_paid first-paid t) (has_paid rest t) has
+    let has : has_paid first_paid t ≡ true = rw (a, q, c) (member_here t t [] refl) in
+    has_append first_paid rest t ∙ or_true_left (has_paid first_paid t) (has_paid rest t) has
 of_charged t (e ∷ es) s (later p) =
-    let first-paid = paid (offer e s).refusal s.running e in
+    let first_paid = paid (offer e s).refusal s.running e in
     let rest = paid_in es (offer e s).state in
-    has_append first-paid rest t ∙ or_true_right (has_paid first-paid t) (has_paid rest t) (of_charged t es (offer e s).state p)
+    has_append first_paid rest t ∙ or_true_right (has_paid first_paid t) (has_paid rest t) (of_charged t es (offer e s).state p)
 
 -- THE UNITS. What is true of a payment from a sound machine
 pub record Bounded (p : Payment) : Type 0 where

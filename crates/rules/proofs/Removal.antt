@@ -60,21 +60,21 @@ module _ (s : State) (h : sound s ≡ true) (n : ℕ) (accepted : refusal (Remov
   created_again r = rw ((passes (above_limit n) 1 _ accepted).0, thread_gone) refl
 
   module _ (t : ℕ) (own : own_of s.slices n s.order ≡ some t) where
-    timeslice-gone : member t after.order ≡ false
-    timeslice-gone =
+    timeslice_gone : member t after.order ≡ false
+    timeslice_gone =
         ap (λ (p : Plain). member t p.order) plain
         ∙ ap (member t) (judge_order (update (Remove n) (forget s)))
         ∙ ap (λ (o : Option ℕ). member t (plain_strike o (forget s)).order) own
         ∙ member_without t s.order x.mid.shape.turns.once
 
     -- and its timeslice's number given again, to every live thread that owns none
-    pub given-again : (m priority quantum : ℕ) → live_at (offer (Remove n) s).state.threads m ≡ true
+    pub given_again : (m priority quantum : ℕ) → live_at (offer (Remove n) s).state.threads m ≡ true
         → owns_one (forget (offer (Remove n) s).state) m ≡ false → eqb quantum 0 ≡ false
         → refusal (Give t m priority quantum) (forget (offer (Remove n) s).state) ≡ 0
     unfolding after
-    given-again m priority quantum live owns some-time =
+    given_again m priority quantum live owns some-time =
         let listed = own_listed s.slices n s.order t own in
         let small-t : above_limit t ≡ false = le-ltb 127 t (omega (arith, x.mid.shape.turns.small t listed)) in
         let inside : m < limit = rw (← after_sound.mid.shape.sane.full) (within after.threads m live) in
         let small-m : above_limit m ≡ false = le-ltb 127 m (omega arith) in
-        rw (small-t, small-m, timeslice-gone, live, owns, some-time) refl
+        rw (small-t, small-m, timeslice_gone, live, owns, some-time) refl

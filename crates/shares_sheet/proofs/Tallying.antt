@@ -91,11 +91,11 @@ module _ {file : List ℕ} {offset : ℕ} {m : Machine} {units : List ℕ} {all 
         ∙ ap (λ (a : events.Answered). paid a.refusal m.running e ++ paid_in rest a.state)
         (turn_answer e g.ahead.sound x.given)
 
-    units-split : (t : ℕ) → units_of t (paid_in g.ahead.events (shown m)) ≡ units_of t now + units_of t later
-    units-split t = ap (units_of t) split ∙ units_append t now later
+    units_split : (t : ℕ) → units_of t (paid_in g.ahead.events (shown m)) ≡ units_of t now + units_of t later
+    units_split t = ap (units_of t) split ∙ units_append t now later
 
-    total-split : total (paid_in g.ahead.events (shown m)) ≡ total now + total later
-    total-split = ap total split ∙ total_append now later
+    total_split : total (paid_in g.ahead.events (shown m)) ≡ total now + total later
+    total_split = ap total split ∙ total_append now later
 
     -- who pays is a timeslice of a sound machine, and pays no more than the total
     pub room : Room units now
@@ -107,13 +107,13 @@ module _ {file : List ℕ} {offset : ℕ} {m : Machine} {units : List ℕ} {all 
         ap (λ (l : List Payment). has_paid l t) split ∙ has_append now later t ∙ or_true_left (has_paid now t) (has_paid later t) h in
         let small = paid_below t ps (all_bounded g.ahead.events (shown m) g.ahead.ranged is_sound) has in (
           omega (arith, small, g.size),
-          omega (arith, g.each t, units-split t, units_most t (payments_of (events_of file)), g.bound),
+          omega (arith, g.each t, units_split t, units_most t (payments_of (events_of file)), g.bound),
         )
 
     module _ {after : List ℕ} {more : ℕ} (a : Added units after now more) where
       -- the sum has room
       pub sum_fits : all + more < 18446744073709551616
-      sum_fits = omega (arith, a.sum, g.sum, total-split, g.bound)
+      sum_fits = omega (arith, a.sum, g.sum, total_split, g.bound)
 
       -- and the machine goes on
       pub counted : Going file next r.machine after (all + more)
@@ -123,8 +123,8 @@ module _ {file : List ℕ} {offset : ℕ} {m : Machine} {units : List ℕ} {all 
             answers = n.later;
             ahead = n.ahead;
             size = a.size ∙ g.size;
-            each = λ t. omega (arith, a.each t, units-split t, g.each t);
-            sum = omega (arith, a.sum, total-split, g.sum);
+            each = λ t. omega (arith, a.each t, units_split t, g.each t);
+            sum = omega (arith, a.sum, total_split, g.sum);
             bound = g.bound;
           }
 

@@ -12,11 +12,11 @@ use lines::put_shares;
 use tally::sum_payments;
 use text::{INPUT, file_buffer, put_file_line};
 
-// Room for the shares of every file: `shares-fit`, in crate text.
+// Room for the shares of every file: `shares_fit`, in crate text.
 pub const ROOM: usize = 4096;
 
 // A buffer for what is read. Of an input of any length it holds enough: the shares of that much are the shares of the whole
-// (`enough-for-shares`, in crate text).
+// (`enough_for_shares`, in crate text).
 pub fn input() -> [u8; INPUT]
     ensures { (b : List ℕ) → shares (take (length result) b) ≡ shares b }
 {

@@ -58,10 +58,10 @@ module _ {k : ℕ} {file : List ℕ} {from : ℕ} {s : State} {at : ℕ} {m : Ma
     abbrev tested : Bool
     tested = not (eqb k 0) && eqb k r.refusal
 
-    now-or-later : (es : List Event)
+    now_or_later : (es : List Event)
         → refused_from k (a.along.gone ++ (e ∷ es)) s
         ≡ (refused_from k a.along.gone s || (tested || refused_from k es (offer e there).state))
-    now-or-later es =
+    now_or_later es =
         refused_append k a.along.gone (e ∷ es) s
         ∙ ap (λ (b : Bool). refused_from k a.along.gone s || b)
         (refused_cons k e es there
@@ -71,7 +71,7 @@ module _ {k : ℕ} {file : List ℕ} {from : ℕ} {s : State} {at : ℕ} {m : Ma
     pub asked_here : tested ≡ true → Asks k (events_at from file) s from (record { found = true; at = at; to = to })
     asked_here h =
         let refused : (es : List Event) → refused_from k (a.along.gone ++ (e ∷ es)) s ≡ true = λ es.
-        now-or-later es ∙ or_true_right (refused_from k a.along.gone s) _ (or_true_left tested _ h) in
+        now_or_later es ∙ or_true_right (refused_from k a.along.gone s) _ (or_true_left tested _ h) in
         record {
           found = sym (ap (λ (l : List Event). refused_from k l s) o.split ∙ refused o.later);
           first = λ _.
@@ -88,13 +88,13 @@ module _ {k : ℕ} {file : List ℕ} {from : ℕ} {s : State} {at : ℕ} {m : Ma
         }
 
     -- it is not
-    pub asked-on : tested ≡ false → Asking k file from s to r.machine
-    asked-on h =
+    pub asked_on : tested ≡ false → Asking k file from s to r.machine
+    asked_on h =
         record {
           along = o.next;
           quiet =
               ap (λ (l : List Event). refused_from k l s) o.next_gone
-              ∙ now-or-later []
+              ∙ now_or_later []
               ∙ ap (λ (b : Bool). b || (tested || refused_from k [] (offer e there).state)) a.quiet
               ∙ ap (λ (b : Bool). b || refused_from k [] (offer e there).state) h
               ∙ none_refused k (offer e there).state;

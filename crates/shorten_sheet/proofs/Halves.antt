@@ -14,7 +14,7 @@ use Rattle.event_file.specs.Left.{events_at}
 use Rattle.shorten_sheet.specs.Standing.{Stand, Apart}
 use Rattle.shorten_sheet.specs.Promises.{Reaches}
 use Rattle.shorten_sheet.specs.declared.reach.Reached.{Reached}
-use Rattle.shorten_sheet.proofs.Standing.{stand_size, stand-front, stand-rear}
+use Rattle.shorten_sheet.proofs.Standing.{stand_size, stand_front, stand_rear}
 
 module _ {now : List ℕ} {from to at : ℕ} (a : Apart now from to at) where
   pub within : to ≤ length now
@@ -27,19 +27,19 @@ module _ {now : List ℕ} {from to at : ℕ} (a : Apart now from to at) where
   untried_some more = omega (arith, length-take-le to now within)
 
   module _ {s : State} {r : Reached} (x : Reaches (events_at from (take to now)) s from r) where
-    cut-here : Stand (take to now) from (x.before ++ (x.event ∷ x.later))
-    cut-here = subst (λ (l : List Event). Stand (take to now) from l) x.split a.front
+    cut_here : Stand (take to now) from (x.before ++ (x.event ∷ x.later))
+    cut_here = subst (λ (l : List Event). Stand (take to now) from l) x.split a.front
 
     pub from_it : Stand (take to now) r.at (x.event ∷ x.later)
-    from_it = stand-rear x.before (x.event ∷ x.later) cut-here x.begins
+    from_it = stand_rear x.before (x.event ∷ x.later) cut_here x.begins
 
-    pub reached-below : r.at < to
-    reached-below = omega (arith, length-take-le to now within, stand_size from_it, records_length (x.event ∷ x.later))
+    pub reached_below : r.at < to
+    reached_below = omega (arith, length-take-le to now within, stand_size from_it, records_length (x.event ∷ x.later))
 
-    pub reached-above : from ≤ r.at
-    reached-above = omega (arith, x.begins)
+    pub reached_above : from ≤ r.at
+    reached_above = omega (arith, x.begins)
 
-    pub before-it : Stand (take r.at now) from x.before
-    before-it =
-        subst (λ (l : List ℕ). Stand l from x.before) (take-take r.at to now (omega (arith, reached-below)))
-        (stand-front x.before (x.event ∷ x.later) cut-here x.begins)
+    pub before_it : Stand (take r.at now) from x.before
+    before_it =
+        subst (λ (l : List ℕ). Stand l from x.before) (take-take r.at to now (omega (arith, reached_below)))
+        (stand_front x.before (x.event ∷ x.later) cut_here x.begins)

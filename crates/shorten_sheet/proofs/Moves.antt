@@ -37,28 +37,28 @@ move_begins {before} {from} {end} {place} low order inside =
 module _ {before now : List ℕ} {from end place to at : ℕ} (m : Moving before now from end place to at) where
   -- the next byte
   module _ (t a : ℕ) (more : from < to) (below : to ≡ suc t) (beneath : at ≡ suc a) where
-    its-byte : get_or now t 0 ≡ get_or (take end before) t 0
-    its-byte =
+    its_byte : get_or now t 0 ≡ get_or (take end before) t 0
+    its_byte =
         sym (get_or-take to now t 0 (omega arith))
         ∙ ap (λ (l : List ℕ). get_or l t 0) m.front
         ∙ get_or-take to before t 0 (omega arith)
         ∙ sym (get_or-take end before t 0 (omega (arith, m.high)))
 
-    moved-rear : drop a (set now a (get_or now t 0)) ≡ drop t (take end before) ++ drop place before
-    moved-rear =
+    moved_rear : drop a (set now a (get_or now t 0)) ≡ drop t (take end before) ++ drop place before
+    moved_rear =
         let b = get_or now t 0 in
         let inside : a < length now = omega (arith, m.apart, m.inside, m.size) in
         let size : length (take end before) ≡ end = length-take-le end before (omega (arith, m.order, m.inside)) in
         drop-cons (set now a b) a 0 (omega (arith, length-set now a b))
-        ∙ ap (λ (n : ℕ). n ∷ drop (suc a) (set now a b)) (get_or-set_same now a b 0 inside ∙ its-byte)
+        ∙ ap (λ (n : ℕ). n ∷ drop (suc a) (set now a b)) (get_or-set_same now a b 0 inside ∙ its_byte)
         ∙ ap (λ (l : List ℕ). get_or (take end before) t 0 ∷ l) (drop-set-lt (suc a) now a b (omega arith))
         ∙ ap (λ (n : ℕ). get_or (take end before) t 0 ∷ drop n now) (sym beneath)
         ∙ ap (λ (l : List ℕ). get_or (take end before) t 0 ∷ l) m.rear
         ∙ ap (λ (n : ℕ). (get_or (take end before) t 0 ∷ drop n (take end before)) ++ drop place before) below
         ∙ ap (λ (l : List ℕ). l ++ drop place before) (sym (drop-cons (take end before) t 0 (omega (arith, m.high, size))))
 
-    byte-moved : Moving before (set now a (get_or now t 0)) from end place t a
-    byte-moved =
+    byte_moved : Moving before (set now a (get_or now t 0)) from end place t a
+    byte_moved =
         let b = get_or now t 0 in
         record {
           low = omega arith;
@@ -72,11 +72,11 @@ module _ {before now : List ℕ} {from end place to at : ℕ} (m : Moving before
               ∙ sym (take-take t to now (omega arith))
               ∙ ap (take t) m.front
               ∙ take-take t to before (omega arith);
-          rear = moved-rear;
+          rear = moved_rear;
         }
 
   pub move_on : from < to → Moving before (set now (at - 1) (get_or now (to - 1) 0)) from end place (to - 1) (at - 1)
-  move_on more = byte-moved (to - 1) (at - 1) more (omega arith) (omega (arith, m.apart, m.order, m.high))
+  move_on more = byte_moved (to - 1) (at - 1) more (omega arith) (omega (arith, m.apart, m.order, m.high))
 
   pub move_ends : to ≤ from → Moved before now from end place at
   move_ends done =

@@ -45,75 +45,75 @@ module _ (file : List ℕ) (narrow : Bytes file) (h : file_refusal file ≡ 0) w
 
   -- the copy
   module _ {zeros copy : List ℕ} {end : ℕ} (z : zeros ≡ replicate 65537 0) (p : Put zeros copy 0 end file) where
-    zeros-size : length zeros ≡ 65537
-    zeros-size = ap length z ∙ length-replicate {A = ℕ} 65537 0
+    zeros_size : length zeros ≡ 65537
+    zeros_size = ap length z ∙ length-replicate {A = ℕ} 65537 0
 
     fits : length file ≤ length zeros
-    fits = omega (arith, zeros-size, (accepted file h).head.small)
+    fits = omega (arith, zeros_size, (accepted file h).head.small)
 
-    pub copy-ends : end ≡ length file
-    copy-ends = (at_front fits p).0
+    pub copy_ends : end ≡ length file
+    copy_ends = (at_front fits p).0
 
-    pub copy-inside : end ≤ length copy
-    copy-inside = omega (arith, copy-ends, fits, keeps p)
+    pub copy_inside : end ≤ length copy
+    copy_inside = omega (arith, copy_ends, fits, keeps p)
 
-    pub copy-front : take end copy ≡ file
-    copy-front =
-        ap (λ (n : ℕ). take n copy) copy-ends
+    pub copy_front : take end copy ≡ file
+    copy_front =
+        ap (λ (n : ℕ). take n copy) copy_ends
         ∙ ap (take (length file)) (at_front fits p).1
         ∙ take-append_seam file (drop (length file) zeros)
 
-    pub copy-stands : Stand (take end copy) 5 (events_at 5 (take end copy))
-    copy-stands = subst (λ (l : List ℕ). Stand l 5 (events_at 5 l)) (sym copy-front) file_read
+    pub copy_stands : Stand (take end copy) 5 (events_at 5 (take end copy))
+    copy_stands = subst (λ (l : List ℕ). Stand l 5 (events_at 5 l)) (sym copy_front) file_read
 
-    pub copy-events : events_at 5 (take end copy) ≡ events_of file
-    copy-events = ap (events_at 5) copy-front ∙ file_events
+    pub copy_events : events_at 5 (take end copy) ≡ events_of file
+    copy_events = ap (events_at 5) copy_front ∙ file_events
 
     -- what is left of it
     module _ (k : ℕ) {part : List ℕ} {r : Rest} (x : Rests (take end copy) part r (shortened k (events_at 5 (take end copy)))) where
-      part-size : length part ≡ length file
-      part-size = x.size ∙ ap length copy-front
+      part_size : length part ≡ length file
+      part_size = x.size ∙ ap length copy_front
 
-      rest-order : r.from ≤ r.to
-      rest-order = omega (arith, x.stands.inside, length-take-le r.to part x.within)
+      rest_order : r.from ≤ r.to
+      rest_order = omega (arith, x.stands.inside, length-take-le r.to part x.within)
 
-      rest-inside : r.to ≤ length (part ++ drop end copy)
-      rest-inside = omega (arith, x.within, length-append part (drop end copy))
+      rest_inside : r.to ≤ length (part ++ drop end copy)
+      rest_inside = omega (arith, x.within, length-append part (drop end copy))
 
       abbrev records : List ℕ
       records = take (r.to - r.from) (drop r.from (part ++ drop end copy))
 
-      rest-records : records ≡ records_of (shortened k (events_of file))
-      rest-records =
-          let low : r.from ≤ length part = omega (arith, rest-order, x.within) in
-          let size : r.to ≡ r.from + (r.to - r.from) = omega (arith, rest-order) in
+      rest_records : records ≡ records_of (shortened k (events_of file))
+      rest_records =
+          let low : r.from ≤ length part = omega (arith, rest_order, x.within) in
+          let size : r.to ≡ r.from + (r.to - r.from) = omega (arith, rest_order) in
           ap (take (r.to - r.from)) (drop-append-le r.from part (drop end copy) low)
           ∙ take-append-le (r.to - r.from) (drop r.from part) (drop end copy) (omega (arith, length-drop r.from part, x.within))
           ∙ sym (drop-take r.from (r.to - r.from) part low)
           ∙ ap (λ (n : ℕ). drop r.from (take n part)) (sym size)
           ∙ x.stands.whole
-          ∙ ap (λ (l : List Event). records_of (shortened k l)) copy-events
+          ∙ ap (λ (l : List Event). records_of (shortened k l)) copy_events
 
-      rest-short : 5 + length records < 65537
-      rest-short =
+      rest_short : 5 + length records < 65537
+      rest_short =
           omega (
             arith,
-            ap length rest-records,
-            ap (λ (l : List Event). length (records_of (shortened k l))) copy-events,
+            ap length rest_records,
+            ap (λ (l : List Event). length (records_of (shortened k l))) copy_events,
             stand_size x.stands,
             length-take-le r.to part x.within,
             x.within,
             x.stands.low,
-            part-size,
+            part_size,
             (accepted file h).head.small,
           )
 
-      rest-file : four_bytes (1 + length records) ++ (1 ∷ records) ≡ file_of (shortened k (events_of file))
+      rest_file : four_bytes (1 + length records) ++ (1 ∷ records) ≡ file_of (shortened k (events_of file))
       unfolding file_of
-      rest-file = ap (λ (l : List ℕ). four_bytes (1 + length l) ++ (1 ∷ l)) rest-records
+      rest_file = ap (λ (l : List ℕ). four_bytes (1 + length l) ++ (1 ∷ l)) rest_records
 
-      pub left-of-it : Left k file (part ++ drop end copy) r
-      left-of-it = record { order = rest-order; inside = rest-inside; short = rest-short; bytes = rest-file }
+      pub left_of_it : Left k file (part ++ drop end copy) r
+      left_of_it = record { order = rest_order; inside = rest_inside; short = rest_short; bytes = rest_file }
 
 -- BY CASES: a refused file, and an accepted one, by whether some event is refused with the number
 module _ (k : ℕ) (file : List ℕ) where

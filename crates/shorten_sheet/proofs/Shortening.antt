@@ -22,7 +22,7 @@ use Rattle.event_file.specs.Left.{events_at}
 use Rattle.shorten_sheet.specs.Standing.{Stand, Apart}
 use Rattle.shorten_sheet.specs.Promises.{Asks, FirstAsked, Keeps, Rests, tried_from}
 use Rattle.shorten_sheet.specs.declared.ask.Asked.{Asked}
-use Rattle.shorten_sheet.proofs.Standing.{events_at_lem, stand_read, stand_size, stand-front, stand-rear, cut-within}
+use Rattle.shorten_sheet.proofs.Standing.{events_at_lem, stand_read, stand_size, stand_front, stand_rear, cut_within}
 use Rattle.shorten_sheet.proofs.Tries.{from_start, refused_stays}
 
 pub record Round (k : ℕ) (before now : List ℕ) (from to : ℕ) (goal : List Event) : Type 0 where
@@ -73,8 +73,8 @@ module _ {k : ℕ} {before now : List ℕ} {from to : ℕ} {goal : List Event} (
     row : t.events ≡ cut ++ first.behind
     row = sym (events_at_lem t.stands) ∙ first.split ∙ sym (append_snoc first.before first.event first.behind)
 
-    cut-ends : r.to ≡ from + length (records_of cut)
-    cut-ends =
+    cut_ends : r.to ≡ from + length (records_of cut)
+    cut_ends =
         omega (
           arith,
           first.begins,
@@ -87,23 +87,23 @@ module _ {k : ℕ} {before now : List ℕ} {from to : ℕ} {goal : List Event} (
     both = subst (λ (l : List Event). Stand (take to now) from l) row t.stands
 
     cut_inside : r.to ≤ to
-    cut_inside = omega (arith, cut-within cut first.behind both cut-ends, length-take-le to now t.within)
+    cut_inside = omega (arith, cut_within cut first.behind both cut_ends, length-take-le to now t.within)
 
-    pub part-inside : r.to ≤ length now
-    part-inside = omega (arith, cut_inside, t.within)
+    pub part_inside : r.to ≤ length now
+    part_inside = omega (arith, cut_inside, t.within)
 
     cut_stands : Stand (take r.to now) from cut
     cut_stands =
-        subst (λ (l : List ℕ). Stand l from cut) (take-take r.to to now cut_inside) (stand-front cut first.behind both cut-ends)
+        subst (λ (l : List ℕ). Stand l from cut) (take-take r.to to now cut_inside) (stand_front cut first.behind both cut_ends)
 
     before_stands : Stand (take r.at (take r.to now)) from first.before
-    before_stands = stand-front first.before (first.event ∷ []) cut_stands first.begins
+    before_stands = stand_front first.before (first.event ∷ []) cut_stands first.begins
 
-    event-stands : Stand (take r.to now) r.at (first.event ∷ [])
-    event-stands = stand-rear first.before (first.event ∷ []) cut_stands first.begins
+    event_stands : Stand (take r.to now) r.at (first.event ∷ [])
+    event_stands = stand_rear first.before (first.event ∷ []) cut_stands first.begins
 
-    pub round-apart : Apart (take r.to now) from r.at r.at
-    round-apart = record { front = stand_read before_stands; order = omega arith; rear = stand_read event-stands }
+    pub round_apart : Apart (take r.to now) from r.at r.at
+    round_apart = record { front = stand_read before_stands; order = omega arith; rear = stand_read event_stands }
 
     quiet : refused_in k first.before ≡ false
     quiet = sym (from_empty first.before) ∙ first.quiet
@@ -112,17 +112,17 @@ module _ {k : ℕ} {before now : List ℕ} {from to : ℕ} {goal : List Event} (
     abbrev kept : Machine → List Event
     kept n = tried_from k (shown n) (reverse (events_at from (take r.at (take r.to now)))) (events_at r.at (take r.to now))
 
-    its-pass : {n : Machine} → n ≡ empty_machine → kept n ≡ pass k cut
-    its-pass {n} e =
+    its_pass : {n : Machine} → n ≡ empty_machine → kept n ≡ pass k cut
+    its_pass {n} e =
         ap (λ (s : State). tried_from k s (reverse (events_at from (take r.at (take r.to now)))) (events_at r.at (take r.to now)))
         (shows_empty n e)
-        ∙ ap₂ (λ (l l' : List Event). tried_from k empty (reverse l) l') (events_at_lem before_stands) (events_at_lem event-stands)
+        ∙ ap₂ (λ (l l' : List Event). tried_from k empty (reverse l) l') (events_at_lem before_stands) (events_at_lem event_stands)
         ∙ sym (from_start k (reverse first.before) (first.event ∷ [])
         (ap (refused_in k) (reverse-reverse first.before) ∙ quiet))
         ∙ sym (refused_stays k first.before first.event quiet)
 
-    same-cut : shortened k cut ≡ goal
-    same-cut =
+    same_cut : shortened k cut ≡ goal
+    same_cut =
         sym (cut_off k cut first.behind (sym (from_empty cut) ∙ first.refused)) ∙ ap (shortened k) (sym row) ∙ t.same
 
     module _ {n : Machine} (e : n ≡ empty_machine) {part : List ℕ} {place : ℕ} (y : Keeps (take r.to now) part from place (kept n))
@@ -130,31 +130,31 @@ module _ {k : ℕ} {before now : List ℕ} {from to : ℕ} {goal : List Event} (
         abbrev next : List ℕ
         next = part ++ drop r.to now
 
-        part-size : length part ≡ r.to
-        part-size = y.size ∙ length-take-le r.to now part-inside
+        part_size : length part ≡ r.to
+        part_size = y.size ∙ length-take-le r.to now part_inside
 
-        next-size : length next ≡ length before
-        next-size =
-            omega (arith, part-size, length-append part (drop r.to now), length-drop r.to now, part-inside, t.size)
+        next_size : length next ≡ length before
+        next_size =
+            omega (arith, part_size, length-append part (drop r.to now), length-drop r.to now, part_inside, t.size)
 
-        next-within : r.to ≤ length next
-        next-within = omega (arith, part-size, length-append part (drop r.to now))
+        next_within : r.to ≤ length next
+        next_within = omega (arith, part_size, length-append part (drop r.to now))
 
-        pass-stands : Stand (take r.to next) place (pass k cut)
-        pass-stands =
-            subst (λ (l : List ℕ). Stand l place (pass k cut)) (sym (take_at part (drop r.to now) r.to part-size))
-            (subst (λ (l : List Event). Stand part place l) (its-pass e) y.rear)
+        pass_stands : Stand (take r.to next) place (pass k cut)
+        pass_stands =
+            subst (λ (l : List ℕ). Stand l place (pass k cut)) (sym (take_at part (drop r.to now) r.to part_size))
+            (subst (λ (l : List Event). Stand part place l) (its_pass e) y.rear)
 
         -- some are left out: there is another round
-        next-round : Round k before next place r.to goal
-        next-round =
+        next_round : Round k before next place r.to goal
+        next_round =
             record {
               events = pass k cut;
-              size = next-size;
-              within = next-within;
-              stands = pass-stands;
+              size = next_size;
+              within = next_within;
+              stands = pass_stands;
               asked = pass_refused k cut (sym (from_empty cut) ∙ first.refused);
-              same = sym (pass-again k cut) ∙ same-cut;
+              same = sym (pass-again k cut) ∙ same_cut;
             }
 
         -- none is
@@ -168,32 +168,32 @@ module _ {k : ℕ} {before now : List ℕ} {from to : ℕ} {goal : List Event} (
                   arith,
                   h,
                   part_records (pass_part k cut),
-                  cut-ends,
+                  cut_ends,
                   low,
                   y.above,
-                  stand_size pass-stands,
-                  length-take-le r.to next next-within,
+                  stand_size pass_stands,
+                  length-take-le r.to next next_within,
                 ))
 
-        last-round : place ≤ from → Rests before next (record { from = from; to = r.to }) goal
-        last-round low =
+        last_round : place ≤ from → Rests before next (record { from = from; to = r.to }) goal
+        last_round low =
             let whole-pass = none_out low in
             let same_place : place ≡ from = omega (arith, y.above) in
             record {
-              size = next-size;
-              within = next-within;
+              size = next_size;
+              within = next_within;
               stands =
                   subst (λ (n : ℕ). Stand (take r.to next) n goal) same_place
                   (subst (λ (l : List Event). Stand (take r.to next) place l)
-                  (whole-pass ∙ sym (last_pass k (length cut) cut whole-pass) ∙ same-cut) pass-stands);
+                  (whole-pass ∙ sym (last_pass k (length cut) cut whole-pass) ∙ same_cut) pass_stands);
             }
 
         pub done : Done k before from to goal r next place
         done =
             record {
-              size = next-size;
+              size = next_size;
               cut = cut_inside;
-              inside = omega (arith, part-size, y.rear.inside);
-              again = next-round;
-              last = last-round;
+              inside = omega (arith, part_size, y.rear.inside);
+              again = next_round;
+              last = last_round;
             }

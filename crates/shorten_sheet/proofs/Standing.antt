@@ -100,14 +100,14 @@ module _ (xs ys : List Event) {bytes : List ℕ} {at mid : ℕ} (x : Stand bytes
     whole : drop at bytes ≡ records_of xs ++ records_of ys
     whole = x.whole ∙ records_of_append xs ys
 
-    pub cut-within : mid ≤ length bytes
-    cut-within = omega (arith, cut, stand_size x, ap length (records_of_append xs ys), length-append (records_of xs) (records_of ys))
+    pub cut_within : mid ≤ length bytes
+    cut_within = omega (arith, cut, stand_size x, ap length (records_of_append xs ys), length-append (records_of xs) (records_of ys))
 
-    pub stand-front : Stand (take mid bytes) at xs
-    stand-front =
+    pub stand_front : Stand (take mid bytes) at xs
+    stand_front =
         record {
           low = x.low;
-          inside = omega (arith, cut, length-take-le mid bytes cut-within);
+          inside = omega (arith, cut, length-take-le mid bytes cut_within);
           whole =
               ap (λ (n : ℕ). drop at (take n bytes)) cut
               ∙ drop-take at (length (records_of xs)) bytes x.inside
@@ -115,11 +115,11 @@ module _ (xs ys : List Event) {bytes : List ℕ} {at mid : ℕ} (x : Stand bytes
               ∙ take-append_seam (records_of xs) (records_of ys);
         }
 
-    pub stand-rear : Stand bytes mid ys
-    stand-rear =
+    pub stand_rear : Stand bytes mid ys
+    stand_rear =
         record {
           low = omega (arith, cut, x.low);
-          inside = cut-within;
+          inside = cut_within;
           whole =
               ap (λ (n : ℕ). drop n bytes) cut
               ∙ sym (drop-drop (length (records_of xs)) at bytes)

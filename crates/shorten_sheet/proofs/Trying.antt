@@ -20,7 +20,7 @@ use Rattle.shorten_sheet.specs.Promises.{Reaches, Moved, Keeps, tried_from}
 use Rattle.shorten_sheet.specs.declared.reach.Reached.{Reached}
 use Rattle.shorten_sheet.proofs.Standing.{no_events, events_at_lem, stand_read}
 use Rattle.shorten_sheet.proofs.Tries.{halves_tried}
-use Rattle.shorten_sheet.proofs.Halves.{untried_size, reached-above, before-it, from_it}
+use Rattle.shorten_sheet.proofs.Halves.{untried_size, reached_above, before_it, from_it}
 
 module _ (k : ℕ) (s : State) {now : List ℕ} {from to at : ℕ} (a : Apart now from to at) where
   abbrev untried : List Event
@@ -45,16 +45,16 @@ module _ (k : ℕ) (s : State) {now : List ℕ} {from to at : ℕ} (a : Apart no
     -- ONE EVENT
     module _ (first : r.at ≤ from) where
       here : r.at ≡ from
-      here = omega (arith, reached-above a x)
+      here = omega (arith, reached_above a x)
 
       only : untried ≡ x.event ∷ []
       only =
           x.split
           ∙ ap₂ (λ (l l' : List Event). l ++ (x.event ∷ l')) (no_events x.before (omega (arith, x.begins, here))) (x.alone here)
 
-      tried-by : {b : Bool} → refused_from k stay s ≡ b → cond b stay (x.event ∷ stay) ≡ tried_from k s (reverse untried) stay
+      tried_by : {b : Bool} → refused_from k stay s ≡ b → cond b stay (x.event ∷ stay) ≡ tried_from k s (reverse untried) stay
       unfolding tried_from after
-      tried-by test =
+      tried_by test =
           ap (λ (c : Bool). cond c stay (x.event ∷ stay)) (sym test) ∙ ap (λ (l : List Event). tried_from k s (reverse l) stay) (sym only)
 
       -- without it such a refusal remains
@@ -64,7 +64,7 @@ module _ (k : ℕ) (s : State) {now : List ℕ} {from to at : ℕ} (a : Apart no
             size = refl;
             front = refl;
             above = omega (arith, untried_size a, a.order);
-            rear = subst (λ (l : List Event). Stand now at l) (tried-by test) a.rear;
+            rear = subst (λ (l : List Event). Stand now at l) (tried_by test) a.rear;
           }
 
       -- it does not, and the event is moved
@@ -85,21 +85,21 @@ module _ (k : ℕ) (s : State) {now : List ℕ} {from to at : ℕ} (a : Apart no
             size = m.size;
             front = m.front;
             above = omega (arith, m.begins, size, a.order);
-            rear = subst (λ (l : List Event). Stand next place l) (tried-by test) rear;
+            rear = subst (λ (l : List Event). Stand next place l) (tried_by test) rear;
           }
 
     -- TWO HALVES. The second
-    pub second-apart : Apart now r.at to at
-    second-apart = record { front = stand_read (from_it a x); order = a.order; rear = a.rear }
+    pub second_apart : Apart now r.at to at
+    second_apart = record { front = stand_read (from_it a x); order = a.order; rear = a.rear }
 
     module _ {next : List ℕ} {place : ℕ}
         (y : Keeps now next r.at place (tried_from k (shown r.machine) (reverse (events_at r.at (take to now))) stay)) where
       -- and then the first
       first_stands : Stand (take r.at next) from x.before
-      first_stands = subst (λ (l : List ℕ). Stand l from x.before) (sym y.front) (before-it a x)
+      first_stands = subst (λ (l : List ℕ). Stand l from x.before) (sym y.front) (before_it a x)
 
-      pub first-apart : Apart next from r.at place
-      first-apart = record { front = stand_read first_stands; order = y.above; rear = stand_read y.rear }
+      pub first_apart : Apart next from r.at place
+      first_apart = record { front = stand_read first_stands; order = y.above; rear = stand_read y.rear }
 
       both : tried_from k s (reverse (events_at from (take r.at next))) (events_at place next) ≡ tried_from k s (reverse untried) stay
       both =
@@ -109,11 +109,11 @@ module _ (k : ℕ) (s : State) {now : List ℕ} {from to at : ℕ} (a : Apart no
           ∙ sym (halves_tried k s x.before (x.event ∷ x.later) stay)
           ∙ ap (λ (l : List Event). tried_from k s (reverse l) stay) (sym x.split)
 
-      pub halves-keep : {last : List ℕ} {end : ℕ}
+      pub halves_keep : {last : List ℕ} {end : ℕ}
           → Keeps next last from end (tried_from k s (reverse (events_at from (take r.at next))) (events_at place next))
           → Keeps now last from end (tried_from k s (reverse untried) stay)
-      halves-keep {last} {end} z =
-          let above = reached-above a x in
+      halves_keep {last} {end} z =
+          let above = reached_above a x in
           record {
             size = z.size ∙ y.size;
             front =

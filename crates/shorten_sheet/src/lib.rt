@@ -19,10 +19,10 @@ use event_file::reader::file_refusal;
 use rounds::shorten;
 use text::{file_buffer, put_bytes, put_file_line, put_head};
 
-// Room for every answer: `shorter-fits`, proofs/Room.antt.
+// Room for every answer: `shorter_fits`, proofs/Room.antt.
 pub const ROOM: usize = 65536;
 
-// The number's byte, and one byte more than a file may have: `enough-for-shorter`, proofs/Room.antt.
+// The number's byte, and one byte more than a file may have: `enough_for_shorter`, proofs/Room.antt.
 const INPUT: usize = 65538;
 
 fn zeros() -> [u8; INPUT]

@@ -138,9 +138,9 @@ module _ (threads : List Thread) (ts : List Timeslice) (sides : Sides) (lives li
     slots = eq-eqb (length (map slice_of ts)) limit (length-map ts slice_of ∙ long)
 
     -- from what the code joins to document 01's test
-    to-sound : joined ≡ true → sound_parts threads ts sides lives live now ≡ true
+    to_sound : joined ≡ true → sound_parts threads ts sides lives live now ≡ true
     unfolding sound_parts sound placed
-    to-sound e =
+    to_sound e =
         let settling = settled_within lives threads ts turns now in
         let x = and5 (counted && leb live limit && list && numbers) places (distinct turns) (distinct owners) settling e in
         let y = and4 counted (leb live limit) list numbers x.0 in
@@ -231,4 +231,4 @@ module _ (threads : List Thread) (ts : List Timeslice) (sides : Sides) (lives li
         and_true_both _ _ apart (settles lived ∙ parts.2)
 
     pub whole : joined ≡ sound_parts threads ts sides lives live now
-    whole = same_test joined (sound_parts threads ts sides lives live now) to-sound from_sound
+    whole = same_test joined (sound_parts threads ts sides lives live now) to_sound from_sound

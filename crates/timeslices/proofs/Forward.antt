@@ -155,7 +155,7 @@ module _ (ts : List Timeslice) (set : Place) (after : List ℕ) (live : ℕ) whe
       → k ≡ t → get_or ts k free_timeslice ≡ x → c ≡ code_of set → d ≡ code_of x.place
       → g ≡ cond (eqb d c) (joined f t x.priority) f → Seeking g (left - 1) k
   unfolding seek step
-  seek_next f g left at t k c d x s some_left after-it same there sought code is =
+  seek_next f g left at t k c d x s some_left after_it same there sought code is =
       let says = shows ts k t x same there in
       let taken : eqb d c ≡ takes set ts t = rw (code, sought, says.0) (in_set (place_at (map place_of ts) t) set) in
       let stepped : g ≡ step (map slice_of ts) (takes set ts) f t = is ∙ rw (taken, says.1) refl in
@@ -163,7 +163,7 @@ module _ (ts : List Timeslice) (set : Place) (after : List ℕ) (live : ℕ) whe
         whole =
             ap (λ (h : Found). seek (map slice_of ts) (takes set ts) h (turns_from (left - 1) after k)) stepped
             ∙ ap (λ (j : ℕ). seek (map slice_of ts) (takes set ts) f (t ∷ turns_from (left - 1) after j)) same
-            ∙ ap (seek (map slice_of ts) (takes set ts) f) (sym (turn_from left after at t some_left after-it))
+            ∙ ap (seek (map slice_of ts) (takes set ts) f) (sym (turn_from left after at t some_left after_it))
             ∙ s.whole;
       }
 

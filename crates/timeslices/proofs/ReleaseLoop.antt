@@ -34,7 +34,7 @@ pub record Moving (at : Place → Bool) (q : ℕ) (after : List ℕ) (live : ℕ
       ≡ released_places at q (turns_read after live) (map place_of before)
 
 module _ (at : Place → Bool) (q : ℕ) (after : List ℕ) (live : ℕ) (before now : List Timeslice) (left here t : ℕ)
-    (m : Moving at q after live before now left here) (some_left : 0 < left) (after-it : t ≡ neighbour after here) where
+    (m : Moving at q after live before now left here) (some_left : 0 < left) (after_it : t ≡ neighbour after here) where
   abbrev moved : List Place
   moved = set (map place_of now) t (released_place at q t (place_at (map place_of now) t))
 
@@ -43,7 +43,7 @@ module _ (at : Place → Bool) (q : ℕ) (after : List ℕ) (live : ℕ) (before
   unfolding released_places
   next k e =
       ap (λ (j : ℕ). released_places at q (turns_from (left - 1) after j) moved) e
-      ∙ rw (turn_from left after here t some_left after-it) at m.rest
+      ∙ rw (turn_from left after here t some_left after_it) at m.rest
 
   -- a timeslice of the set is moved
   pub move : (k : ℕ) (y : Timeslice) → k ≡ t → at (get_or now k free_timeslice).place ≡ true

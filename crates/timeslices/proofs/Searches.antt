@@ -28,7 +28,7 @@ use Rattle.tables.proofs.Lookups.{place_at_lem, priority_is, turn, turns_out, en
 use Rattle.tables.proofs.Places.{same_place}
 use Rattle.neighbours.specs.Sides.{sentinel, neighbour}
 use Rattle.neighbours.specs.Reading.{turns_read}
-use Rattle.neighbours.proofs.Stepping.{Read, read_none, read-this, read_one, length-turns}
+use Rattle.neighbours.proofs.Stepping.{Read, read_none, read_this, read_one, length-turns}
 
 -- a loop that stores one entry after another: those before i have their new value, the others are as they were
 pub record Storing (value : ℕ → ℕ) (before now : List ℕ) (i : ℕ) : Type 0 where
@@ -94,11 +94,11 @@ module _ (ts : List Timeslice) (after : List ℕ) (live n : ℕ) (order₀ codes
       → Filling ts after live n order₀ codes₀ heights₀ order codes heights at i → i < n → t ≡ neighbour after at
       → k ≡ t → get_or ts k free_timeslice ≡ x → c ≡ code_of x.place → r ≡ height_of x.priority i
       → Filling ts after live n order₀ codes₀ heights₀ (set order i t) (set codes i c) (set heights i r) k (i + 1)
-  fill_one order codes heights at i t k c r x f short after-it same there code height =
-      let this = read-this after live n at i t f.read short after-it in
+  fill_one order codes heights at i t k c r x f short after_it same there code height =
+      let this = read_this after live n at i t f.read short after_it in
       let says = shows ts k (get_or (turns_read after live) i 0) x (same ∙ this) there in
       record {
-        read = subst (λ (j : ℕ). Read after live n j (i + 1)) (sym same) (read_one after live n at i t f.read short after-it);
+        read = subst (λ (j : ℕ). Read after live n j (i + 1)) (sym same) (read_one after live n at i t f.read short after_it);
         ordered = store_one _ order₀ order i t f.ordered this;
         coded = store_one _ codes₀ codes i c f.coded (code ∙ ap code_of says.0);
         measured = store_one _ heights₀ heights i r f.measured (height ∙ ap (λ (p : ℕ). height_of p i) says.1);
@@ -226,11 +226,11 @@ module _ (ts : List Timeslice) (order : List ℕ) (live : ℕ) (codes heights : 
     (r : Coded ts order live codes heights) (s : Place) where
   -- this is the height of timeslice t, at entry i or later
   record Stands (i best t : ℕ) : Type 0 where
-    turn-of : ℕ
-    later : i ≤ turn-of
-    inside : turn-of < entries_of live
-    at : get_or order turn-of 0 ≡ t
-    stands : best ≡ height_of (priority_at (map slice_of ts) t) turn-of
+    turn_of_lem : ℕ
+    later : i ≤ turn_of_lem
+    inside : turn_of_lem < entries_of live
+    at : get_or order turn_of_lem 0 ≡ t
+    stands : best ≡ height_of (priority_at (map slice_of ts) t) turn_of_lem
 
   abbrev Best : ℕ → ℕ → Option ℕ → Type 0
   Best i best none = best ≡ 0
@@ -240,7 +240,7 @@ module _ (ts : List Timeslice) (order : List ℕ) (live : ℕ) (codes heights : 
   wider : (i best : ℕ) (o : Option ℕ) → Best (suc i) best o → Best i best o
   wider i best none h = h
   wider i best (some t) h = record {
-    turn-of = h.turn-of;
+    turn_of_lem = h.turn_of_lem;
     later = omega (arith, h.later);
     inside = h.inside;
     at = h.at;
@@ -253,7 +253,7 @@ module _ (ts : List Timeslice) (order : List ℕ) (live : ℕ) (codes heights : 
 
   -- the timeslice at entry i itself
   here : (i : ℕ) → i < entries_of live → Stands i (height_of (priority (get_or order i 0)) i) (get_or order i 0)
-  here i short = record { turn-of = i; later = omega arith; inside = short; at = refl; stands = refl }
+  here i short = record { turn_of_lem = i; later = omega arith; inside = short; at = refl; stands = refl }
 
   -- an earlier entry of the set has the larger height where its priority is not lower
   pick : (i best : ℕ) (o : Option ℕ) → i < entries_of live → Best (suc i) best o
@@ -304,7 +304,7 @@ module _ (ts : List Timeslice) (order : List ℕ) (live : ℕ) (codes heights : 
   found_by best none h = rw h refl
   found_by best (some t) h =
       let one : best ≡ suc (best - 1) = omega (arith, h.stands, h.inside) in
-      let at : turn_of (suc (best - 1)) ≡ h.turn-of = omega (arith, h.stands, h.inside) in
+      let at : turn_of (suc (best - 1)) ≡ h.turn_of_lem = omega (arith, h.stands, h.inside) in
       ap (top_of order) one ∙ ap some (ap (λ (i : ℕ). get_or order i 0) at ∙ h.at)
 
   -- so the search through codes and heights is the search that document 01 defines

@@ -20,9 +20,9 @@ module _ (ts : List Timeslice) where
   none_sliced = record { full = refl; front = refl }
 
   module _ (long : length ts ≡ 128) where
-    pub one-sliced : (ss : List Slice) (i : ℕ) (y : Slice) → Sliced ss i → i < 128 → y ≡ slice_of (get_or ts i free_timeslice)
+    pub one_sliced : (ss : List Slice) (i : ℕ) (y : Slice) → Sliced ss i → i < 128 → y ≡ slice_of (get_or ts i free_timeslice)
         → Sliced (set ss i y) (i + 1)
-    one-sliced ss i y x short e =
+    one_sliced ss i y x short e =
         let before : take (suc i) (set ss i y) ≡ take i ss ++ (y ∷ []) = take-suc-set ss i y (omega (arith, x.full)) in
         let within : i < length ts = omega arith in
         let after : map slice_of (take (suc i) ts) ≡ map slice_of (take i ts) ++ (y ∷ []) =
@@ -32,6 +32,6 @@ module _ (ts : List Timeslice) where
           front = rw (add-one i) (before ∙ ap (λ (l : List Slice). l ++ (y ∷ [])) x.front ∙ sym after);
         }
 
-    pub all-sliced : (ss : List Slice) (i : ℕ) → Sliced ss i → 128 ≤ i → ss ≡ map slice_of ts
-    all-sliced ss i x past =
+    pub all_sliced : (ss : List Slice) (i : ℕ) → Sliced ss i → 128 ≤ i → ss ≡ map slice_of ts
+    all_sliced ss i x past =
         sym (take_all i ss (omega (arith, x.full))) ∙ x.front ∙ ap (map slice_of) (take_all i ts (omega arith))

@@ -84,7 +84,7 @@ module _ (s : State) (h : sound s ≡ true) (n : ℕ) (was-blocked : hold_at s.t
       chain : Chain
       before : chain_of s.threads s.slices t ≡ ended n chain
       now : chain_of (set_hold n Ready s.threads) s.slices t ≡ ended n chain
-      verdict-now : verdict (set_hold n Ready s.threads) (ended n chain) ≡ runs
+      verdict_now : verdict (set_hold n Ready s.threads) (ended n chain) ≡ runs
 
     chained : Chained
     chained = by waited
@@ -106,7 +106,7 @@ module _ (s : State) (h : sound s ≡ true) (n : ℕ) (was-blocked : hold_at s.t
               chain = d;
               before = walk_ends s.threads (links_live x.mid.shape.sane) (owner s t) live p;
               now = now.0;
-              verdict-now = rw now.0 at now.1;
+              verdict_now = rw now.0 at now.1;
             }
 
     -- it stands above whoever was in Queue
@@ -123,9 +123,9 @@ module _ (s : State) (h : sound s ≡ true) (n : ℕ) (was-blocked : hold_at s.t
         by (nothing _ f) = clash (in_queue (place_at s.places u)) (is_queued q) (queue_none s f u l)
         by (runs_on c _ _ r f _) = under c f (rw r at above) (same u c)
 
-    top-now : above_running s t s.running ≡ true → topmost_at in_queue (wake n s).state ≡ some t
+    top_now : above_running s t s.running ≡ true → topmost_at in_queue (wake n s).state ≡ some t
     unfolding wake releases
-    top-now above =
+    top_now above =
         topmost_release (on_thread n) s'
         ∙ is_top s.slices (λ u. in_queue (place_at (release (on_thread n) s').places u)) s.order t
         (record {
@@ -150,9 +150,9 @@ module _ (s : State) (h : sound s ≡ true) (n : ℕ) (was-blocked : hold_at s.t
           let c = chained t e in
           let f = forget_release (on_thread n) s' in
           ap accepted
-          (first_look (release (on_thread n) s') t (ended n c.chain) (top-now t e k)
+          (first_look (release (on_thread n) s') t (ended n c.chain) (top_now t e k)
           (ap (λ (p : Plain). chain_of p.threads p.slices t) f ∙ c.now)
-          (subst (λ (p : Plain). verdict p.threads (ended n c.chain) ≡ runs) (sym f) c.verdict-now))
+          (subst (λ (p : Plain). verdict p.threads (ended n c.chain) ≡ runs) (sym f) c.verdict_now))
           ∙ ap (λ (d : Chain). accepted (record { state = with_running (Runs n t d.count) (wake n s).state; links = d.links }))
           (sym c.before)
 

@@ -77,15 +77,15 @@ pub wake_still : (s : State) → sound s ≡ true → (n : ℕ) → hold_at s.th
 unfolding wake releases
 wake_still s h n b = ap (λ (a : Answered). still a.state) (wake_at_once s h n b) ∙ by (topmost_at (on_thread n) s)
   where
-    put-still : still (wakes n s) ≡ wakes n (still s)
-    put-still = sym (release_running (on_thread n) Nothing (with_threads (set_hold n Ready s.threads) s))
+    put_still : still (wakes n s) ≡ wakes n (still s)
+    put_still = sym (release_running (on_thread n) Nothing (with_threads (set_hold n Ready s.threads) s))
 
     either : (t : ℕ) → Two (above_running s t s.running) → still (woken_by n s (some t)).state ≡ wakes n (still s)
-    either t (yes_true k) = rw k put-still
-    either t (no_false k) = rw k put-still
+    either t (yes_true k) = rw k put_still
+    either t (no_false k) = rw k put_still
 
     by : (o : Option ℕ) → still (woken_by n s o).state ≡ wakes n (still s)
-    by none = put-still
+    by none = put_still
     by (some t) = either t (two (above_running s t s.running))
 
 -- two holds
@@ -180,9 +180,9 @@ two_wakes a b s h n p q =
       one_way = both_accepted a b s h n p q;
       other_way = both_accepted b a s h other q p;
       machine =
-          same_running (after (Wake a ∷ Wake b ∷ []) s) (after (Wake b ∷ Wake a ∷ []) s) (left-sound a b) (left-sound b a)
+          same_running (after (Wake a ∷ Wake b ∷ []) s) (after (Wake b ∷ Wake a ∷ []) s) (left_sound a b) (left_sound b a)
           (both_still a b s h n p q ∙ wakes_commute a b (still s) n (listing s h) ∙ sym (both_still b a s h other q p));
     }
   where
-    left-sound : (a b : ℕ) → Sound (after (Wake a ∷ Wake b ∷ []) s)
-    left-sound a b = sound_of _ (after_sound (Wake a ∷ Wake b ∷ []) s (wake_ranged a, (wake_ranged b, tt)) h)
+    left_sound : (a b : ℕ) → Sound (after (Wake a ∷ Wake b ∷ []) s)
+    left_sound a b = sound_of _ (after_sound (Wake a ∷ Wake b ∷ []) s (wake_ranged a, (wake_ranged b, tt)) h)

@@ -154,21 +154,21 @@ module _ (s : State) (h : sound s ≡ true) (a b : ℕ) (n : a ≡ b → ⊥) (p
   -- THE SUMS AGREE, if after the wake of one of the two alone there is no choice.
   pub sums_agree : (wake a s).chooses ≡ false → links_of_both a b s ≡ links_of_both b a s
   sums_agree quiet =
-      let first : (offer (Wake a) s).links ≡ 0 = wake_follows s h a p ∙ ap (λ (z : Bool). cond z (chain_links s waiter-a) 0) alone in
+      let first : (offer (Wake a) s).links ≡ 0 = wake_follows s h a p ∙ ap (λ (z : Bool). cond z (chain_links s waiter_a) 0) alone in
       let second : (offer (Wake b) (offer (Wake a) s).state).links ≡ (offer (Wake b) s).links =
       second_follows s h a b n p q
-      ∙ ap (λ (r : Running). cond (overtakes_as s waiter-b r) (chain_links s waiter-b) 0) (quiet_running s h a p alone)
+      ∙ ap (λ (r : Running). cond (overtakes_as s waiter_b r) (chain_links s waiter_b) 0) (quiet_running s h a p alone)
       ∙ sym (wake_follows s h b q) in
       let none_then : (offer (Wake a) (offer (Wake b) s).state).links ≡ 0 =
       second_follows s h b a (λ e. n (sym e)) q p
-      ∙ ap (λ (z : Bool). cond z (chain_links s waiter-a) 0) (by (two (overtakes_as s waiter-b s.running))) in
+      ∙ ap (λ (z : Bool). cond z (chain_links s waiter_a) 0) (by (two (overtakes_as s waiter_b s.running))) in
       omega (arith, sum_is a b s, sum_is b a s, first, second, none_then)
     where
-      waiter-a : Option ℕ
-      waiter-a = topmost_at (on_thread a) s
+      waiter_a : Option ℕ
+      waiter_a = topmost_at (on_thread a) s
 
-      waiter-b : Option ℕ
-      waiter-b = topmost_at (on_thread b) s
+      waiter_b : Option ℕ
+      waiter_b = topmost_at (on_thread b) s
 
       alone : overtakes_as s (topmost_at (on_thread a) s) s.running ≡ false
       alone = sym (chooses_as a s) ∙ quiet

@@ -5,7 +5,7 @@ use mathlib.Core.Path.{sym, ◌∙◌}
 use borrow.Author.Tests.{not-true, not-false}
 use Rattle.text.proofs.Puts.{at_front, reading, ◌then◌}
 use Rattle.text.proofs.ReasonRoom.{reason_fits}
-use Rattle.reason_sheet.proofs.Reasons.{whole_file, short, refused_file, no_event, that-event}
+use Rattle.reason_sheet.proofs.Reasons.{whole_file, short, refused_file, no_event, that_event}
 use Rattle.reason_sheet.proofs.write_reason.Goals as goal
 
 pub returns-then-input-lt4 : goal.returns-then-input-lt4
@@ -43,6 +43,6 @@ returns c =
     let fits = reason_fits c.args.input.now (λ i. (c.shared_slice_known-1.given i).fits) in
     at_front (omega (arith, fits, c.put_chain_line-arg-1.given.0.1))
     (reading
-    (that-event c.args.input.now c.if-input-lt4.false (whole_file c.args.input.now) accepted c.length_field-number.ensures.value
+    (that_event c.args.input.now c.if-input-lt4.false (whole_file c.args.input.now) accepted c.length_field-number.ensures.value
     (sym c.reach-there.ensures.found ∙ found) _ (c.reach-there.ensures.machine found))
     (c.put_chain_line-next.ensures then c.put_causes.ensures))

@@ -135,7 +135,7 @@ retries_now : (s : State) → Mid s → (links t : ℕ) → topmost_at in_queue 
     → (c : Chain) → walk s.threads (owner s t) ≡ c → c ≡ ended n r.chain → verdict s.threads c ≡ retries
     → (k : ℕ) → Chosen (forget s) (unparked_in s) links (choose_from (suc k) (record { state = retry c s; links = links + c.links }))
 unfolding choose_from
-retries_now s x links t e n r c f w v k = by next-look
+retries_now s x links t e n r c f w v k = by next_look
   where
     after : State
     after = retry c s
@@ -154,11 +154,11 @@ retries_now s x links t e n r c f w v k = by next-look
         ∙ subst (λ (d : Chain). live_thread_count (donate d.helper d.end s.threads) ≡ live_thread_count s.threads) (sym w)
         (retry_live s x t e n r)
 
-    next-look : Next s x t e n r (retry c s)
-    next-look = subst (λ (d : Chain). Next s x t e n r (retry d s)) (sym w) (retry_next s x t e n r)
+    next_look : Next s x t e n r (retry c s)
+    next_look = subst (λ (d : Chain). Next s x t e n r (retry d s)) (sym w) (retry_next s x t e n r)
 
-    some-link : 0 < c.links
-    some-link = subst (λ (d : Chain). 0 < d.links) (sym w) r.links
+    some_link : 0 < c.links
+    some_link = subst (λ (d : Chain). 0 < d.links) (sym w) r.links
 
     most : c.links ≤ live_thread_count s.threads
     most = subst (λ (d : Chain). d.links ≤ live_thread_count s.threads) f (walk_links s.threads (owner s t))
@@ -180,7 +180,7 @@ retries_now s x links t e n r c f w v k = by next-look
               (subst (λ (d : Chain). Judges 0 (plain_threads (donate d.helper d.end s.threads) (forget s)) (forget o.state))
               (sym f)
               (subst (λ (p : Plain). Judges 0 p (forget o.state)) plain z.judged));
-          few = omega (arith, some-link, most);
+          few = omega (arith, some_link, most);
           links = omega (arith, b, m, most);
         }
 

@@ -212,17 +212,17 @@ pub queue_after : (at : Place → Bool) (s : State) → Releasable at s → (t :
     → in_queue (place_at (release at s).places t) ≡ true → Queued at s t
 queue_after at s x t h e = by (released at s)
   where
-    moved-queue : (q : ℕ) → topmost_at at s ≡ some q → Two (at (place_at s.places t)) → Same t q
+    moved_queue : (q : ℕ) → topmost_at at s ≡ some q → Two (at (place_at s.places t)) → Same t q
         → in_queue (released_place at q t (place_at s.places t)) ≡ true → Queued at s t
-    moved-queue q f (yes_true k) (equal z _) w = joined_now (f ∙ ap some (sym z))
-    moved-queue q f (yes_true k) (different n z) w = clash false (rw (k, z) at w) refl
-    moved-queue q f (no_false k) z w = was (queue_is (place_at s.places t) (rw k at w))
+    moved_queue q f (yes_true k) (equal z _) w = joined_now (f ∙ ap some (sym z))
+    moved_queue q f (yes_true k) (different n z) w = clash false (rw (k, z) at w) refl
+    moved_queue q f (no_false k) z w = was (queue_is (place_at s.places t) (rw k at w))
 
     by : Released at s → Queued at s t
     by (nobody f r) = was (queue_is (place_at s.places t) (rw r at e))
     by (joins q f r) =
         let top = top_some s.slices (λ u. at (place_at s.places u)) s.order q f in
-        moved-queue q f (two (at (place_at s.places t))) (same t q) (rw (moved at s x q top t h) at (rw r at e))
+        moved_queue q f (two (at (place_at s.places t))) (same t q) (rw (moved at s x q top t h) at (rw r at e))
 
 pub queue_kept : (at : Place → Bool) (s : State) → Releasable at s → (t : ℕ) → member t s.order ≡ true
     → place_at s.places t ≡ Queue → place_at (release at s).places t ≡ Queue

@@ -169,8 +169,8 @@ module _ (s : State) (x : Mid s) (t : ℕ) (e : topmost_at in_queue s ≡ some t
       after : State
       after = release (on_thread n) (with_threads ts' s)
 
-      t-queued : in_queue (place_at after.places t) ≡ true
-      t-queued =
+      t_queued : in_queue (place_at after.places t) ≡ true
+      t_queued =
           is_queued (queue_kept (on_thread n) (with_threads ts' s) retry_releasable t top.listed (top_queued s t e))
 
       found : (q : ℕ) → topmost_at in_queue after ≡ some q → Top s.slices (λ u. in_queue (place_at after.places u)) s.order q
@@ -185,11 +185,11 @@ module _ (s : State) (x : Mid s) (t : ℕ) (e : topmost_at in_queue s ≡ some t
       one q f (different o _) (was w) =
           clash (stands_above s.slices s.order t q)
           (top.above q (found q f).listed (is_queued w) o)
-          (above_asym s.slices s.order q t ((found q f).above t top.listed t-queued (λ z. o (sym z))))
+          (above_asym s.slices s.order q t ((found q f).above t top.listed t_queued (λ z. o (sym z))))
 
       by : (o : Option ℕ) → topmost_at in_queue after ≡ o → Next after
       by none f =
-          clash (in_queue (place_at after.places t)) t-queued
+          clash (in_queue (place_at after.places t)) t_queued
           (top_none s.slices (λ u. in_queue (place_at after.places u)) s.order
           (sym (topmost_release (on_thread n) (with_threads ts' s)) ∙ f) t top.listed)
       by (some q) f =

@@ -21,7 +21,7 @@ use Rattle.rules.proofs.Soundness.Places.{Sound}
 use Rattle.rules.proofs.Tables.Updates.{HoldUpdate, abort_update, abort_help_update}
 use Rattle.rules.proofs.Choosing.Changes.{reframed}
 use Rattle.rules.proofs.Events.Hands.{Handed}
-use Rattle.rules.proofs.Events.Cutting.{CutAt, cut-handed}
+use Rattle.rules.proofs.Events.Cutting.{CutAt, cut_handed}
 
 -- the thread named has a link
 linked_update : (ts : List Thread) (n : ℕ) → Sane ts → (h : Hold) → hold_at ts n ≡ h → linked h ≡ true → HoldUpdate ts (aborted n ts) n Ready
@@ -46,5 +46,5 @@ abort_handed s x n e =
       holds = λ m o _. u.others m o;
       gone = λ i _. clash (linked (hold_at ts n)) link (ap linked i);
     } in
-    cut-handed x.mid at (not-false (live_at ts n) b.0) (omega arith) (omega (arith, u.update.count)) (omega arith)
+    cut_handed x.mid at (not-false (live_at ts n) b.0) (omega arith) (omega (arith, u.update.count)) (omega arith)
     _ refl _ refl

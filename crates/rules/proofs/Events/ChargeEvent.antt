@@ -102,12 +102,12 @@ charge_handed s x units e = by s.running refl (passes (nothing_runs s.running) 4
     too_much : Running → Bool
     too_much r = eqb units 0 || ltb (left_at s.slices (current_timeslice r)) units
 
-    left-or-not : (n t count : ℕ) → s.running ≡ Runs n t count → too_much (Runs n t count) ≡ false
+    left_or_not : (n t count : ℕ) → s.running ≡ Runs n t count → too_much (Runs n t count) ≡ false
         → Two (eqb (left_at s.slices t) units)
         → Handed s (charge_by units s (Runs n t count)) (plain_charge units (forget s) (Runs n t count))
-    left-or-not n t count q m (yes_true k) =
+    left_or_not n t count q m (yes_true k) =
         rw k (depletes_handed x (active s x n t count q) units (eqb-true (left_at s.slices t) units k))
-    left-or-not n t count q m (no_false k) =
+    left_or_not n t count q m (no_false k) =
         let least = ltb-false (left_at s.slices t) units (or_false_right (eqb units 0) _ m) in
         let other = eqb-false (left_at s.slices t) units k in
         rw k (spends_handed x (active s x n t count q) q units (omega arith))
@@ -116,4 +116,4 @@ charge_handed s x units e = by s.running refl (passes (nothing_runs s.running) 4
         → Handed s (charge_by units s r) (plain_charge units (forget s) r)
     by Nothing q p = clash true refl p.0
     by (Runs n t count) q p =
-        left-or-not n t count q (passes (too_much (Runs n t count)) 10 0 p.1).0 (two (eqb (left_at s.slices t) units))
+        left_or_not n t count q (passes (too_much (Runs n t count)) 10 0 p.1).0 (two (eqb (left_at s.slices t) units))

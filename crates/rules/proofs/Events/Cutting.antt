@@ -78,15 +78,15 @@ module _ {s : State} (x : Mid s) {ts' : List Thread} {n : ℕ} (u : CutAt s ts' 
         threads = u.threads;
         queue = refl;
         spared = refl;
-        on = λ y k _ w. stay_there u.threads w (u.holds k (linked k (waits_unlinked w)) (waits_unlinked w)) (nowhere-ends k);
+        on = λ y k _ w. stay_there u.threads w (u.holds k (linked k (waits_unlinked w)) (waits_unlinked w)) (nowhere_ends k);
         loops = freed refl;
       }
     where
       linked : (k : ℕ) → link_at ts k ≡ unlinked → k ≡ n → ⊥
       linked k l e = never n no_links (ends_here ts n (rw e at l))
 
-      nowhere-ends : (k : ℕ) → Avoids ts n k
-      nowhere-ends k c d q = let z = again q.path no_links in never k z.chain (record { path = z.path; last = q.last })
+      nowhere_ends : (k : ℕ) → Avoids ts n k
+      nowhere_ends k c d q = let z = again q.path no_links in never k z.chain (record { path = z.path; last = q.last })
 
 -- THE CUT, after the walk from n over the threads of s, whose end is read there; s₀ is the machine that the event was offered to
 module _
@@ -114,10 +114,10 @@ module _
         (forget_release (on_thread m) (with_threads ts' s)) few
     released m p links few false f = hand (with_threads ts' s) links (change_mid (at_unblocked x u m p f)) refl few
 
-    pub cut-handed : (c : Chain) → c ≡ walk s.threads n → (b : Bool) → b ≡ end_blocked c s.threads
+    pub cut_handed : (c : Chain) → c ≡ walk s.threads n → (b : Bool) → b ≡ end_blocked c s.threads
         → Handed s₀ (after_walk c b (with_threads ts' s)) (plain_threads ts' (forget s))
     unfolding after_walk
-    cut-handed c is b at = by (found s.threads (links_live x.shape.sane) n live)
+    cut_handed c is b at = by (found s.threads (links_live x.shape.sane) n live)
       where
         by : Found s.threads n → Handed s₀ (after_walk c b (with_threads ts' s)) (plain_threads ts' (forget s))
         by (ends m d p e) =

@@ -53,7 +53,7 @@ settled_after n s x settled quiet = by (released (on_thread n) s)
     joined q e k (nothing r f) = clash true refl (rw r at k)
     joined q e k (runs_on t m count r f w) =
         runs_on t m count (ap (λ (p : Plain). p.running) (forget_release (on_thread n) s) ∙ r)
-        (top_stays (on_thread n) s x t f (λ u g. subst (λ (z : ℕ). stands_above s.slices s.order t z ≡ true) (same-one u g) over))
+        (top_stays (on_thread n) s x t f (λ u g. subst (λ (z : ℕ). stands_above s.slices s.order t z ≡ true) (same_one u g) over))
         (runs_after (on_thread n) s t m count w)
       where
         low : stands_above s.slices s.order q t ≡ false
@@ -68,8 +68,8 @@ settled_after n s x settled quiet = by (released (on_thread n) s)
         over : stands_above s.slices s.order t q ≡ true
         over = above_total s.slices s.order q t top.listed apart low
 
-        same-one : (u : ℕ) → topmost_at (on_thread n) s ≡ some u → q ≡ u
-        same-one u g = cc
+        same_one : (u : ℕ) → topmost_at (on_thread n) s ≡ some u → q ≡ u
+        same_one u g = cc
 
     by : Released (on_thread n) s → Settled (release (on_thread n) s)
     by (nobody e r) = rw r settled

@@ -12,7 +12,7 @@ use Rattle.rules.specs.Timeslices.{with_left, set_left, to_back}
 use Rattle.rules.proofs.Order.Orders.{above_same}
 use Rattle.rules.proofs.Soundness.Places.{Mid}
 use Rattle.rules.proofs.Choosing.Slices.{Retimed}
-use Rattle.rules.proofs.Events.Rewrites.{rewritten_now, rewritten_others, field_kept, range, retimed-here, retimed-back}
+use Rattle.rules.proofs.Events.Rewrites.{rewritten_now, rewritten_others, field_kept, range, retimed_here, retimed_back}
 
 -- the table where k is left of timeslice t, read at a number
 module _ (ss : List Slice) (t k : ℕ) (small : t < length ss) where
@@ -40,9 +40,9 @@ module _ {s : State} (x : Mid s) (t : ℕ) (listed : member t s.order ≡ true) 
   -- in the order of before
   pub left_changed : Retimed s.threads s.slices (set_left t k s.slices) s.order s.order t
   unfolding set_left
-  left_changed = retimed-here x t listed (with_left k (slice_at s.slices t)) refl ((range x t listed).leaves k most)
+  left_changed = retimed_here x t listed (with_left k (slice_at s.slices t)) refl ((range x t listed).leaves k most)
 
   -- at the back of the turn order
   pub left_back : Retimed s.threads s.slices (set_left t k s.slices) s.order (to_back t s.order) t
   unfolding set_left
-  left_back = retimed-back x t listed (with_left k (slice_at s.slices t)) refl ((range x t listed).leaves k most)
+  left_back = retimed_back x t listed (with_left k (slice_at s.slices t)) refl ((range x t listed).leaves k most)

@@ -28,7 +28,7 @@ use Rattle.rules.proofs.Choosing.Releases.{Releasable, mid_releasable, release_m
 use Rattle.rules.proofs.Choosing.Releases.{Follows, stood, sent, follows, is_behind, Alone}
 use Rattle.rules.proofs.Choosing.Slices.{Retimed, retimed, put_listed, none, retimed_mid, stays_put, unchanged}
 use Rattle.rules.proofs.Events.Hands.{Handed, same_limit}
-use Rattle.rules.proofs.Events.Rewrites.{rewritten_now, in_table, range, retimed-back}
+use Rattle.rules.proofs.Events.Rewrites.{rewritten_now, in_table, range, retimed_back}
 
 -- what detaching leaves: the timeslice stands alone, and the plain machine sees nothing
 pub record Detached (s : State) (t : ℕ) (s' : State) : Type 0 where
@@ -101,7 +101,7 @@ module _ {s : State} (x : Mid s) (t : ℕ) (listed : member t s.order ≡ true) 
 module _ {s : State} (x : Mid s) (t priority : ℕ) (listed : member t s.order ≡ true) (low : priority ≤ 255) (a : Alone s t) where
   ranked_retimed : Retimed s.threads s.slices (ranked t priority s.slices) s.order (to_back t s.order) t
   unfolding ranked
-  ranked_retimed = retimed-back x t listed (with_priority priority (slice_at s.slices t)) refl ((range x t listed).ranks priority low)
+  ranked_retimed = retimed_back x t listed (with_priority priority (slice_at s.slices t)) refl ((range x t listed).ranks priority low)
 
   -- it keeps its owner and what is left of it
   ranked_now : slice_at (ranked t priority s.slices) t ≡ with_priority priority (slice_at s.slices t)

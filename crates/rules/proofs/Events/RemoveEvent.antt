@@ -33,7 +33,7 @@ use Rattle.rules.proofs.Tables.Removals.{removed_count, removed_gone, removed_sa
 use Rattle.rules.proofs.Choosing.Releases.{Releasable, release_mid, forget_release}
 use Rattle.rules.proofs.Choosing.Slices.{Retimed, retimed, freed, retimed_releasable}
 use Rattle.rules.proofs.Events.Hands.{Handed}
-use Rattle.rules.proofs.Events.Cutting.{CutAt, cut-handed}
+use Rattle.rules.proofs.Events.Cutting.{CutAt, cut_handed}
 
 -- the timeslice is gone, its slot is free, and the others keep records and order
 module _ {s : State} (x : Mid s) (t : ℕ) (listed : member t s.order ≡ true) where
@@ -125,7 +125,7 @@ removes s₀ s n x e turns owners live c is b blocked =
     let live_now : live_at s.threads n ≡ true = rw e live in
     let as_many : live_thread_count s.threads ≡ live_thread_count s₀.threads = ap live_thread_count e in
     let cut : CutAt s (removed n s₀.threads) n = subst (λ (ts : List Thread). CutAt s (removed n ts) n) e (cuts s x n live_now owners) in
-    cut-handed x cut live_now (omega arith) (omega (arith, removed_count s₀.threads n live)) turns
+    cut_handed x cut live_now (omega arith) (omega (arith, removed_count s₀.threads n live)) turns
     c (is ∙ ap (λ (ts : List Thread). walk ts n) (sym e)) b (blocked ∙ ap (end_blocked c) (sym e))
 
 pub remove_handed : (s : State) → Sound s → (n : ℕ) → refusal (Remove n) (forget s) ≡ 0
@@ -138,9 +138,9 @@ remove_handed s x n e =
     let z = strikes s x.mid n (own s.slices n s.order) in
     subst
     (λ (p : Plain). Handed s (remove n s) (plain_threads (removed n s.threads) p)) z.plain
-    (removes s (strike_out o s) n z.mid (threads-kept o z.plain) z.turns z.owners (not-false (live_at s.threads n) b.0)
+    (removes s (strike_out o s) n z.mid (threads_kept o z.plain) z.turns z.owners (not-false (live_at s.threads n) b.0)
     _ refl _ refl)
   where
-    threads-kept : (o : Option ℕ) → forget (strike_out o s) ≡ plain_strike o (forget s) → (strike_out o s).threads ≡ s.threads
-    threads-kept none q = refl
-    threads-kept (some t) q = ap (λ (p : Plain). p.threads) q
+    threads_kept : (o : Option ℕ) → forget (strike_out o s) ≡ plain_strike o (forget s) → (strike_out o s).threads ≡ s.threads
+    threads_kept none q = refl
+    threads_kept (some t) q = ap (λ (p : Plain). p.threads) q

@@ -75,24 +75,24 @@ module _ (s : State) (x : Sound s) (server t count : ℕ) (a : Active s server t
         }
 
     -- from the caller the links do not come back to it
-    comes-once : {m : ℕ} {e d : Chain} → m ≡ caller → To (link_at s.threads) caller e m d → e ≡ d
-    comes-once at stop = refl
-    comes-once at (call {s = k} f p) =
+    comes_once : {m : ℕ} {e d : Chain} → m ≡ caller → To (link_at s.threads) caller e m d → e ≡ d
+    comes_once at stop = refl
+    comes_once at (call {s = k} f p) =
         let to : donation k ≡ donation server = sym f ∙ ap link_of calls in
         let z : k ≡ server = cc in
         let back : k ≡ caller = at_once (ap (link_at s.threads) z ∙ ap link_of a.runs.ready) p ∙ at in
         let ready = a.runs.ready in
         let same-hold : hold_at s.threads server ≡ hold_at s.threads caller = ap (hold_at s.threads) (sym z ∙ back) in
         let w : ◌≡◌ {A = ℕ} 0 1 = cc in absurd (omega arith)
-    comes-once at (help f p) =
+    comes_once at (help f p) =
         let g = ap link_of calls in let w : ◌≡◌ {A = ℕ} 0 1 = cc in absurd (omega arith)
 
     -- with a count above 0 the last link is the caller's donation
     backed : 0 < count → Donor (link_at s.threads) (owner s t) no_links server a.runs.chain
     backed h = donor refl (rw a.runs.counted h) (last a.runs.ends.path)
 
-    donor-is : (d : Donor (link_at s.threads) (owner s t) no_links server a.runs.chain) → d.thread ≡ caller
-    donor-is d =
+    donor_is : (d : Donor (link_at s.threads) (owner s t) no_links server a.runs.chain) → d.thread ≡ caller
+    donor_is d =
         let served = x.mid.shape.sane.served d.thread server (donation_is (hold_at s.threads d.thread) server d.link) in
         cc
 
@@ -102,7 +102,7 @@ module _ (s : State) (x : Sound s) (server t count : ℕ) (a : Active s server t
       where
         by : Split (link_at s.threads) (link_at ts') caller (owner s t) no_links caller d → To (link_at ts') (owner s t) no_links caller d
         by (same q) = q
-        by (via q q' rest) = subst (λ (c : Chain). To (link_at ts') (owner s t) no_links caller c) (comes-once refl rest) q'
+        by (via q q' rest) = subst (λ (c : Chain). To (link_at ts') (owner s t) no_links caller c) (comes_once refl rest) q'
 
     settled : 0 < count → Settled (with_running (Runs caller t (count - 1)) (with_threads ts' s))
     settled h =
@@ -113,7 +113,7 @@ module _ (s : State) (x : Sound s) (server t count : ℕ) (a : Active s server t
           chain = d.chain;
           ends =
               record {
-                path = goes_back (subst (λ (j : ℕ). To (link_at s.threads) (owner s t) no_links j d.chain) (donor-is d) d.path);
+                path = goes_back (subst (λ (j : ℕ). To (link_at s.threads) (owner s t) no_links j d.chain) (donor_is d) d.path);
                 last = ap link_of pair.at_caller;
               };
           ready = pair.at_caller;

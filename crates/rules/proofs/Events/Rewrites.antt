@@ -67,10 +67,10 @@ module _ {s : State} (x : Mid s) (t : ℕ) (listed : member t s.order ≡ true) 
   -- another record of the same owner is a change of one timeslice,
   module _ (y : Slice) (owner : y.owner ≡ owner_at s.slices t) (in-range : in_range y ≡ true) where
     -- in an order of the same members
-    retimed-in : (order' : List ℕ) → distinct order' ≡ true → ((u : ℕ) → member u order' ≡ member u s.order)
+    retimed_in : (order' : List ℕ) → distinct order' ≡ true → ((u : ℕ) → member u order' ≡ member u s.order)
         → ((a b : ℕ) → (a ≡ t → ⊥) → (b ≡ t → ⊥) → stands_above s.slices order' a b ≡ stands_above s.slices s.order a b)
         → Retimed s.threads s.slices (set s.slices t y) s.order order' t
-    retimed-in order' d members above =
+    retimed_in order' d members above =
         let ss = s.slices in
         let turns = x.shape.turns in
         let now = rewritten_now ss t y in_table in
@@ -89,11 +89,11 @@ module _ {s : State} (x : Mid s) (t : ℕ) (listed : member t s.order ≡ true) 
         }
 
     -- in the order of before
-    pub retimed-here : Retimed s.threads s.slices (set s.slices t y) s.order s.order t
-    retimed-here = retimed-in s.order x.shape.turns.once (λ u. refl) (λ a b na nb. refl)
+    pub retimed_here : Retimed s.threads s.slices (set s.slices t y) s.order s.order t
+    retimed_here = retimed_in s.order x.shape.turns.once (λ u. refl) (λ a b na nb. refl)
 
     -- at the back: the others keep their order among themselves
-    pub retimed-back : Retimed s.threads s.slices (set s.slices t y) s.order (to_back t s.order) t
-    retimed-back =
-        retimed-in (to_back t s.order) (distinct_back t s.order x.shape.turns.once)
+    pub retimed_back : Retimed s.threads s.slices (set s.slices t y) s.order (to_back t s.order) t
+    retimed_back =
+        retimed_in (to_back t s.order) (distinct_back t s.order x.shape.turns.once)
         (λ u. member_back t u s.order listed) (above_back s.slices t s.order)

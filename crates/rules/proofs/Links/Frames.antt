@@ -13,19 +13,19 @@ use Rattle.rules.proofs.Links.Chains.{same as unchanged}
 pub no_both {ℓ} : {A : Type ℓ} {l : Link} {s : ℕ} → l ≡ unlinked → l ≡ donation s → A
 no_both p q = let z : ◌≡◌ {A = ℕ} 0 1 = cc in absurd (omega arith)
 
-pub no-both-help {ℓ} : {A : Type ℓ} {l : Link} {s : ℕ} → l ≡ unlinked → l ≡ helping s → A
-no-both-help p q = let z : ◌≡◌ {A = ℕ} 0 1 = cc in absurd (omega arith)
+pub no_both_help {ℓ} : {A : Type ℓ} {l : Link} {s : ℕ} → l ≡ unlinked → l ≡ helping s → A
+no_both_help p q = let z : ◌≡◌ {A = ℕ} 0 1 = cc in absurd (omega arith)
 
 -- a chain from a thread without a link goes nowhere
 pub at_once : {ln : ℕ → Link} {n m : ℕ} {c d : Chain} → ln n ≡ unlinked → To ln n c m d → n ≡ m
 at_once u stop = refl
 at_once u (call e p) = no_both u e
-at_once u (help e p) = no-both-help u e
+at_once u (help e p) = no_both_help u e
 
 pub at_once_chain : {ln : ℕ → Link} {n m : ℕ} {c d : Chain} → ln n ≡ unlinked → To ln n c m d → c ≡ d
 at_once_chain u stop = refl
 at_once_chain u (call e p) = no_both u e
-at_once_chain u (help e p) = no-both-help u e
+at_once_chain u (help e p) = no_both_help u e
 
 -- the links from a thread end at one thread only, whatever the chain so far
 same_end : {ln : ℕ → Link} {n n' m m' : ℕ} {c c' d d' : Chain} → n ≡ n' → To ln n c m d → ln m ≡ unlinked → To ln n' c' m' d'
@@ -34,7 +34,7 @@ same_end {ln = ln} z stop u q v = z ∙ at_once (rw z at u) q
 same_end {ln = ln} z (call e p) u stop v = no_both (rw (sym z) at v) e
 same_end {ln = ln} z (call e p) u (call f q) v = same_end (cc (ap ln z)) p u q v
 same_end {ln = ln} z (call e p) u (help f q) v = let w : ◌≡◌ {A = ℕ} 0 1 = cc (ap ln z) in absurd (omega arith)
-same_end {ln = ln} z (help e p) u stop v = no-both-help (rw (sym z) at v) e
+same_end {ln = ln} z (help e p) u stop v = no_both_help (rw (sym z) at v) e
 same_end {ln = ln} z (help e p) u (call f q) v = let w : ◌≡◌ {A = ℕ} 0 1 = cc (ap ln z) in absurd (omega arith)
 same_end {ln = ln} z (help e p) u (help f q) v = same_end (cc (ap ln z)) p u q v
 
@@ -94,7 +94,7 @@ leads {ln = ln} {m = m} {c' = c'} {d' = d'} z stop q u never =
 leads {ln = ln} z (call e p) stop u never = no_both (rw (sym z) at u) e
 leads {ln = ln} z (call e p) (call f q) u never = leads (cc (ap ln z)) p q u never
 leads {ln = ln} z (call e p) (help f q) u never = let w : ◌≡◌ {A = ℕ} 0 1 = cc (ap ln z) in absurd (omega arith)
-leads {ln = ln} z (help e p) stop u never = no-both-help (rw (sym z) at u) e
+leads {ln = ln} z (help e p) stop u never = no_both_help (rw (sym z) at u) e
 leads {ln = ln} z (help e p) (call f q) u never = let w : ◌≡◌ {A = ℕ} 0 1 = cc (ap ln z) in absurd (omega arith)
 leads {ln = ln} z (help e p) (help f q) u never = leads (cc (ap ln z)) p q u never
 
@@ -125,7 +125,7 @@ module _ {ln ln' : ℕ → Link} {r : ℕ} (x : Cuts ln ln' r) where
     where
       by : To ln s (helped n c) m d → Cut ln ln' r n → To ln n c m d
       by rest (keeps k) = help (sym k ∙ e) rest
-      by rest (cut k q) = no-both-help k e
+      by rest (cut k q) = no_both_help k e
 
   -- THE FRAME, for links cut, and an end
   cut_end : {n m : ℕ} {c d : Chain} → ((e f : Chain) → Ends ln r e m f → ⊥) → Ends ln n c m d → Ends ln' n c m d

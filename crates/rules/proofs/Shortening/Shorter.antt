@@ -66,8 +66,8 @@ module _ (k : ℕ) where
     there = after before empty
 
     -- the refusal asked for would be before e, which could be taken out; e itself, which is not the last; or behind it
-    refused-is : ((offer e there).refusal ≡ 0 → ⊥) → Refused k (before ++ behind) empty
-    refused-is refused = by (or_true_cases (refused_in k before) _ (sym (refused_append k before (e ∷ behind) empty) ∙ row))
+    refused_is : ((offer e there).refusal ≡ 0 → ⊥) → Refused k (before ++ behind) empty
+    refused_is refused = by (or_true_cases (refused_in k before) _ (sym (refused_append k before (e ∷ behind) empty) ∙ row))
       where
         row : refused_in k (before ++ (e ∷ behind)) ≡ true
         row = ap (refused_in k) (sym split) ∙ of_refused k r
@@ -93,12 +93,12 @@ module _ (k : ℕ) where
         by (first q) = refused_of k (before ++ behind) empty (refused_front k before behind empty q)
         by (second _ q) = later (or_true_cases _ _ (sym (refused_cons k e behind there) ∙ q))
 
-    other-accepted : (offer e there).refusal ≡ 0
-    other-accepted = by (same (offer e there).refusal 0)
+    other_accepted : (offer e there).refusal ≡ 0
+    other_accepted = by (same (offer e there).refusal 0)
       where
         by : Same (offer e there).refusal 0 → (offer e there).refusal ≡ 0
         by (equal q _) = q
-        by (different q _) = clash (refused_in k (before ++ behind)) (of_refused k (refused-is q)) (m before e behind split)
+        by (different q _) = clash (refused_in k (before ++ behind)) (of_refused k (refused_is q)) (m before e behind split)
 
   pub shortened_true : (es : List Event) → Refused k es empty → Shortened k es (shortened k es)
   shortened_true es h =
@@ -111,7 +111,7 @@ module _ (k : ℕ) where
         refused = refused;
         none_without = λ before e behind split r. clash (refused_in k (before ++ behind)) (of_refused k r) (m before e behind split);
         at_its_end = λ r. last_of m r r.behind refl;
-        others_accepted = λ before e behind split more. other-accepted m refused before e behind split more;
+        others_accepted = λ before e behind split more. other_accepted m refused before e behind split more;
         procedure = all;
       }
 

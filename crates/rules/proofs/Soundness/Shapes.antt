@@ -186,16 +186,16 @@ turns_of_lem p c =
       free = free_of full;
     }
   where
-    free-by : length p.slices ≡ limit → (t : ℕ) → member t p.order ≡ false → Two (ltb t limit) → slice_at p.slices t ≡ free_slice
-    free-by full t n (yes_true h) =
+    free_by : length p.slices ≡ limit → (t : ℕ) → member t p.order ≡ false → Two (ltb t limit) → slice_at p.slices t ≡ free_slice
+    free_by full t n (yes_true h) =
         slice_free_lem (slice_at p.slices t)
         (rw n at (below_at (λ u. member u p.order || slice_free (slice_at p.slices u)) limit
         (and_true_right (free_threads p) (free_slices p) c.free) t (ltb-true t limit h)))
-    free-by full t n (no_false h) =
+    free_by full t n (no_false h) =
         get_or-eq_default p.slices free_slice (omega (arith, borrow.Author.Tests.ltb-false t limit h))
 
     free_of : length p.slices ≡ limit → (t : ℕ) → member t p.order ≡ false → slice_at p.slices t ≡ free_slice
-    free_of full t n = free-by full t n (two (ltb t limit))
+    free_of full t n = free_by full t n (two (ltb t limit))
 
 pub shape_of : (p : Plain) → shaped p ≡ true → Shape p
 shape_of p e = let c = clauses p e in record { sane = sane_of p c; turns = turns_of_lem p c }

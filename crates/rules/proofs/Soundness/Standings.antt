@@ -125,18 +125,18 @@ at_loop ts x h e = ap (verdict ts) e
 pub standing : (ts : List Thread) → Sane ts → (x : ℕ) → live_at ts x ≡ true → Standing ts x
 standing ts s x h = by (found ts (links_live s) x h)
   where
-    at-idle-end : (m : ℕ) (d : Chain) → Ends (link_at ts) x no_links m d → walk ts x ≡ ended m d → hold_at ts m ≡ Idle
+    at_idle_end : (m : ℕ) (d : Chain) → Ends (link_at ts) x no_links m d → walk ts x ≡ ended m d → hold_at ts m ≡ Idle
         → Two (ltb 0 d.links) → Standing ts x
-    at-idle-end m d p e i (yes_true l) =
+    at_idle_end m d p e i (yes_true l) =
         retrying m (record { chain = d; ends = p; idle = i; links = ltb-true 0 d.links l }) e
         (at_idle ts x m d e i (ltb-true 0 d.links l))
-    at-idle-end m d p e i (no_false l) =
+    at_idle_end m d p e i (no_false l) =
         let z : d.links ≡ 0 = omega (arith, ltb-false 0 d.links l) in
         waiting m (idle (stays p.path z).0 i) (ap (λ (c : Chain). c.end) e) (at_idle_owner ts x m d e i z)
 
     at_end_lem : (m : ℕ) (d : Chain) → Ends (link_at ts) x no_links m d → walk ts x ≡ ended m d → Unlinked (hold_at ts m) → Standing ts x
     at_end_lem m d p e (ready r) = running m d.count (record { chain = d; ends = p; ready = r; counted = refl }) e (at_ready ts x m d e r)
-    at_end_lem m d p e (idle i) = at-idle-end m d p e i (two (ltb 0 d.links))
+    at_end_lem m d p e (idle i) = at_idle_end m d p e i (two (ltb 0 d.links))
     at_end_lem m d p e (blocked b) = waiting m (blocked p b) (ap (λ (c : Chain). c.end) e) (at_blocked ts x m d e b)
 
     by : Found ts x → Standing ts x

@@ -28,7 +28,7 @@ use Rattle.rules.proofs.Soundness.Standings.{Target, call_target}
 use Rattle.rules.proofs.Tables.Partners.{donee, patron, Matched, matched, matched_served, matched_calling}
 use Rattle.rules.proofs.Tables.Partners.{same_partners, Bond, apart, bound, turned_partners}
 use Rattle.rules.proofs.Tables.Writes.{role_at, starting, within, Relabels, Written, Made}
-use Rattle.rules.proofs.Tables.Writes.{hold_written, donate-written, reply-written, reply_orphan_written, abort-written}
+use Rattle.rules.proofs.Tables.Writes.{hold_written, donate_written, reply_written, reply_orphan_written, abort_written}
 use Rattle.rules.proofs.Tables.Writes.{created_made}
 
 -- "Idle holds exactly for servers with service none; clients serve nobody", over the three tests
@@ -223,31 +223,31 @@ module _
         by m p (equal e _) = rw (e, w.hold_b) (c.link_b (λ z. p (e ∙ z)))
         by m p (different q _) = ap link_of (sym (w.holds m p q))
 
-    matched-after : Matched ts'
-    matched-after = by c.calls
+    matched_after : Matched ts'
+    matched_after = by c.calls
       where
-        donee-else : (m : ℕ) → (m ≡ a → ⊥) → donee (link_at ts' m) ≡ donee (link_at ts m)
-        donee-else m p = ap donee (sym (links_after.elsewhere m p))
+        donee_else : (m : ℕ) → (m ≡ a → ⊥) → donee (link_at ts' m) ≡ donee (link_at ts m)
+        donee_else m p = ap donee (sym (links_after.elsewhere m p))
 
-        patron-else : (m : ℕ) → (m ≡ b → ⊥) → patron (service_at ts' m) ≡ patron (service_at ts m)
-        patron-else m q = ap patron (w.services m q)
+        patron_else : (m : ℕ) → (m ≡ b → ⊥) → patron (service_at ts' m) ≡ patron (service_at ts m)
+        patron_else m q = ap patron (w.services m q)
 
-        donee-same : donee (link_of h) ≡ donee (link_at ts a) → (m : ℕ) → Same m a → donee (link_at ts' m) ≡ donee (link_at ts m)
-        donee-same f m (equal e _) = rw (e, w.hold_a) f
-        donee-same f m (different p _) = donee-else m p
+        donee_same : donee (link_of h) ≡ donee (link_at ts a) → (m : ℕ) → Same m a → donee (link_at ts' m) ≡ donee (link_at ts m)
+        donee_same f m (equal e _) = rw (e, w.hold_a) f
+        donee_same f m (different p _) = donee_else m p
 
-        patron-same : patron v ≡ patron (service_at ts b) → (m : ℕ) → Same m b → patron (service_at ts' m) ≡ patron (service_at ts m)
-        patron-same g m (equal e _) = rw (e, w.service_b) g
-        patron-same g m (different q _) = patron-else m q
+        patron_same : patron v ≡ patron (service_at ts b) → (m : ℕ) → Same m b → patron (service_at ts' m) ≡ patron (service_at ts m)
+        patron_same g m (equal e _) = rw (e, w.service_b) g
+        patron_same g m (different q _) = patron_else m q
 
         by : Calls a b (donee (link_at ts a)) (patron (service_at ts b)) (donee (link_of h)) (patron v) → Matched ts'
-        by (stay f g) = same_partners (λ m. donee-same f m (same m a)) (λ m. patron-same g m (same m b)) (matched x)
-        by (turn old new) = turned_partners a b donee-else patron-else old (rw (w.hold_a, w.service_b) new) (matched x)
+        by (stay f g) = same_partners (λ m. donee_same f m (same m a)) (λ m. patron_same g m (same m b)) (matched x)
+        by (turn old new) = turned_partners a b donee_else patron_else old (rw (w.hold_a, w.service_b) new) (matched x)
 
-    update-of : Update ts ts' a
-    update-of =
+    update_of : Update ts ts' a
+    update_of =
         record {
-          sane = sane_after x w.kept fits_after matched-after;
+          sane = sane_after x w.kept fits_after matched_after;
           live = w.kept.live;
           count = w.kept.count;
           links = links_after;
@@ -261,7 +261,7 @@ pub record HoldUpdate (ts ts' : List Thread) (n : ℕ) (h : Hold) : Type 0 where
 
 alone : {ts ts' : List Thread} {n : ℕ} {h : Hold} {v : Service} → Sane ts → Written ts ts' n n h h v → Change ts n n h h v
     → HoldUpdate ts ts' n h
-alone x w c = record { update = update-of x w c; now = w.hold_a; others = λ m o. w.holds m o o }
+alone x w c = record { update = update_of x w c; now = w.hold_a; others = λ m o. w.holds m o o }
 
 pub hold_update : (ts : List Thread) (n : ℕ) (h : Hold) → Sane ts → live_at ts n ≡ true → Free (hold_at ts n) → Free h
     → ((s : ℕ) → h ≡ Helping s → Target ts n s) → HoldUpdate ts (set_hold n h ts) n h
@@ -284,7 +284,7 @@ pub record PairUpdate (ts ts' : List Thread) (caller server : ℕ) (a b : Hold) 
 
 pair : {ts ts' : List Thread} {caller server : ℕ} {a b : Hold} {v : Service} → Sane ts → Written ts ts' caller server a b v
     → Change ts caller server a b v → PairUpdate ts ts' caller server a b
-pair x w c = record { update = update-of x w c; at_caller = w.hold_a; at_server = w.hold_b; others = w.holds }
+pair x w c = record { update = update_of x w c; at_caller = w.hold_a; at_server = w.hold_b; others = w.holds }
 
 -- a donation, and the retry of a helper
 pub donate_update : (ts : List Thread) (caller server : ℕ) → Sane ts → live_at ts caller ≡ true → Free (hold_at ts caller)
@@ -293,7 +293,7 @@ pub donate_update : (ts : List Thread) (caller server : ℕ) → Sane ts → liv
 donate_update ts caller server x live old idle =
     let to = idle_target caller server x old.busy idle in
     let serves = idle_server x server idle in
-    pair x (donate-written ts caller server (within ts caller live) (within ts server to.live) to.other)
+    pair x (donate_written ts caller server (within ts caller live) (within ts server to.live) to.other)
     (record {
       fits_a = λ _. busy_fits x caller (Calling server) live old.busy refl (target_good to);
       fits_b = live_fits Ready (Serving caller) to.live refl (rw to.server);
@@ -308,7 +308,7 @@ reply_update ts caller server x ready serves =
     let calls = x.calling caller server serves in
     let to = call_target x caller server calls in
     let live = unready_live x caller (ap is_ready calls) in
-    pair x (reply-written ts caller server (within ts caller live) (within ts server to.live) to.other serves)
+    pair x (reply_written ts caller server (within ts caller live) (within ts server to.live) to.other serves)
     (record {
       fits_a = λ _. busy_fits x caller Ready live (ap is_idle calls) refl refl;
       fits_b = live_fits Idle Nobody to.live refl (rw to.server);
@@ -337,7 +337,7 @@ abort_update ts caller server x calls =
     let to = call_target x caller server calls in
     let live = unready_live x caller (ap is_ready calls) in
     let serves = x.served caller server calls in
-    let w = abort-written ts caller server (within ts caller live) (within ts server to.live) to.other calls in
+    let w = abort_written ts caller server (within ts caller live) (within ts server to.live) to.other calls in
     let c : Change ts caller server Ready (hold_at ts server) Orphan =
     record {
       fits_a = λ _. busy_fits x caller Ready live (ap is_idle calls) refl refl;
@@ -345,7 +345,7 @@ abort_update ts caller server x calls =
       link_b = λ _. refl;
       calls = turn (bound (ap (λ h. donee (link_of h)) calls) (ap patron serves)) (apart refl refl);
     } in
-    record { update = update-of x w c; now = w.hold_a; others = λ m o. by w m o (same m server) }
+    record { update = update_of x w c; now = w.hold_a; others = λ m o. by w m o (same m server) }
   where
     by : Written ts (aborted caller ts) caller server Ready (hold_at ts server) Orphan
         → (m : ℕ) → (m ≡ caller → ⊥) → Same m server → hold_at (aborted caller ts) m ≡ hold_at ts m

@@ -252,20 +252,20 @@ module _
     (ts : List Thread) (caller server : ℕ)
     (small-caller : caller < length ts) (small-server : server < length ts) (other : server ≡ caller → ⊥)
   where
-    pub donate-written : Written ts (donate caller server ts) caller server (Calling server) Ready (Serving caller)
+    pub donate_written : Written ts (donate caller server ts) caller server (Calling server) Ready (Serving caller)
     unfolding donate
-    donate-written =
+    donate_written =
         pair_written ts caller server (Calling server) Ready (Serving caller) small-caller small-server (λ e. other (sym e))
 
-    pub reply-written : service_at ts server ≡ Serving caller → Written ts (replied server ts) caller server Ready Idle Nobody
+    pub reply_written : service_at ts server ≡ Serving caller → Written ts (replied server ts) caller server Ready Idle Nobody
     unfolding replied
-    reply-written serves =
+    reply_written serves =
         rw serves (pair_written ts caller server Ready Idle Nobody small-caller small-server (λ e. other (sym e)))
 
-    pub abort-written : hold_at ts caller ≡ Calling server
+    pub abort_written : hold_at ts caller ≡ Calling server
         → Written ts (aborted caller ts) caller server Ready (hold_at ts server) Orphan
     unfolding aborted
-    abort-written calls = rw calls (orphan_written ts caller server Ready Orphan small-caller small-server other)
+    abort_written calls = rw calls (orphan_written ts caller server Ready Orphan small-caller small-server other)
 
 -- and of one
 pub reply_orphan_written : (ts : List Thread) (server : ℕ) → server < length ts → service_at ts server ≡ Orphan

@@ -1,6 +1,6 @@
 -- Each timeslice is taken over once.
 use native.Mathlib.Omega.{arith}
-use Rattle.two_engines.proofs.Slicing.{none_sliced, one-sliced, all-sliced}
+use Rattle.two_engines.proofs.Slicing.{none_sliced, one_sliced, all_sliced}
 use Rattle.two_engines.proofs.slices_of.Goals as goal
 
 pub loop-i-init : goal.loop-i-init
@@ -26,7 +26,7 @@ loop-i-smaller c = omega arith
 
 pub loop-i-preserved : goal.loop-i-preserved
 loop-i-preserved c =
-    one-sliced _ c.well_formed.0.1.0.1 _ _ _ c.loop-i.invariant c.loop-i-test.true c.slice_of-y.ensures
+    one_sliced _ c.well_formed.0.1.0.1 _ _ _ c.loop-i.invariant c.loop-i-test.true c.slice_of-y.ensures
 
 pub returns : goal.returns
-returns c = all-sliced _ c.well_formed.0.1.0.1 _ _ c.loop-i.invariant c.loop-i-test.false
+returns c = all_sliced _ c.well_formed.0.1.0.1 _ _ c.loop-i.invariant c.loop-i-test.false

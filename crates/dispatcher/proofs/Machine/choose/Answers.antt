@@ -56,7 +56,7 @@ loop-looks-smaller-in-Nothing-first c =
 
 pub loop-looks-preserved-in-Nothing-first : goal.loop-looks-preserved-in-Nothing-first
 loop-looks-preserved-in-Nothing-first c =
-    let before-it = (let unreleased' : Unreleased c.loop-looks.self c.args.self.live_timeslices c.fill.new.order c.in-At.t
+    let before_it = (let unreleased' : Unreleased c.loop-looks.self c.args.self.live_timeslices c.fill.new.order c.in-At.t
     c.walk-chain.result
     c.judged-said.result c.match-said.self c.match-said.codes c.fill.new.heights = elim c.match-said.branch [
       | in-Retries o ↦ unreleased_retry c.loop-looks.self c.args.self.live_timeslices c.fill.new.order _ _ c.loop-looks.invariant.coded _ _ c.judged-said.result c.match-said.self c.match-said.codes o.in-Retries.is _ o.donated-next.ensures o.self-is o.codes-is
@@ -67,7 +67,7 @@ loop-looks-preserved-in-Nothing-first c =
           (none_aside c.loop-looks.self c.args.self.live_timeslices c.fill.new.order _ _ c.loop-looks.invariant.coded c.loop-looks.invariant.timeslices _ _ c.index-k.ensures o.aside-place.result c.match-said.self c.match-said.codes o.if-k-lt128-2.false o.self-is o.codes-is)
     ] in unreleased') in
     let free = freed_none c.match-said.self.timeslices _ _ _ _ _ c.freed_by-set.result c.release_set-first.result c.loop-looks.invariant.entries
-    before-it.coded
+    before_it.coded
     c.release_set-first.ensures.topmost c.release_set-first.ensures.released c.in-Nothing-first.is in
     goes_on _ _ _ _ _ _ _ _ _ _ c.loop-looks.invariant _ _ _ c.judged-said.result c.match-said.self _ _ c.match-said.self.timeslices c.loop-looks-test.true c.added-followed.ensures
     ((let look' : (v : Said) → c.judged-said.result ≡ v
@@ -77,7 +77,7 @@ loop-looks-preserved-in-Nothing-first c =
     (walks c.loop-looks.self.threads _ _ _ (lives_are _ _ _ _ _ _ _ _ _ _ c.loop-looks.invariant) c.walk-chain.ensures)
     (elim c.if-e-lt128.branch [ then-e-lt128 o ↦ held c.loop-looks.self.threads _ _ _ c.index-e.ensures o.hold-is | else-e-lt128 o ↦ held_none c.loop-looks.self.threads _ _ _ c.loop-looks.invariant.threads c.index-e.ensures o.if-e-lt128.false o.hold-is ])
     c.judged-said.ensures
-    is in look') c.judged-said.result refl) before-it
+    is in look') c.judged-said.result refl) before_it
     (rw c.freed_by-set.ensures at free)
 
 pub loop-looks-smaller : goal.loop-looks-smaller
@@ -86,7 +86,7 @@ loop-looks-smaller c =
 
 pub loop-looks-preserved : goal.loop-looks-preserved
 loop-looks-preserved c =
-    let before-it = (let unreleased' : Unreleased c.loop-looks.self c.args.self.live_timeslices c.fill.new.order c.in-At.t
+    let before_it = (let unreleased' : Unreleased c.loop-looks.self c.args.self.live_timeslices c.fill.new.order c.in-At.t
     c.walk-chain.result
     c.judged-said.result c.match-said.self c.match-said.codes c.fill.new.heights = elim c.match-said.branch [
       | in-Retries o ↦ unreleased_retry c.loop-looks.self c.args.self.live_timeslices c.fill.new.order _ _ c.loop-looks.invariant.coded _ _ c.judged-said.result c.match-said.self c.match-said.codes o.in-Retries.is _ o.donated-next.ensures o.self-is o.codes-is
@@ -97,9 +97,9 @@ loop-looks-preserved c =
           (none_aside c.loop-looks.self c.args.self.live_timeslices c.fill.new.order _ _ c.loop-looks.invariant.coded c.loop-looks.invariant.timeslices _ _ c.index-k.ensures o.aside-place.result c.match-said.self c.match-said.codes o.if-k-lt128-2.false o.self-is o.codes-is)
     ] in unreleased') in
     let queued = ap (λ (p : Place). set_of p Queue) c.freed_by-set.ensures ∙ none_queued c.judged-said.result _ _ in
-    let free = freed_some c.match-said.self.timeslices _ _ _ _ _ c.freed_by-set.result c.release_set-first.result c.loop-looks.invariant.entries before-it.coded
+    let free = freed_some c.match-said.self.timeslices _ _ _ _ _ c.freed_by-set.result c.release_set-first.result c.loop-looks.invariant.entries before_it.coded
     c.release_set-first.ensures.topmost c.release_set-first.ensures.released _ _ queued c.in-At-first.is
-    (as_laid _ _ _ _ _ _ _ _ _ _ c.loop-looks.invariant _ _ _ _ _ before-it _ _ _ c.released-free.ensures) in
+    (as_laid _ _ _ _ _ _ _ _ _ _ c.loop-looks.invariant _ _ _ _ _ before_it _ _ _ c.released-free.ensures) in
     goes_on _ _ _ _ _ _ _ _ _ _ c.loop-looks.invariant _ _ _ c.judged-said.result c.match-said.self _ _ _ c.loop-looks-test.true c.added-followed.ensures ((let look' : (v : Said) → c.judged-said.result ≡ v
     → Look (state_of c.loop-looks.self c.args.self.live_timeslices c.fill.new.order) c.in-At.t
     c.walk-chain.result (verdict_of v) = λ v is. looked _ c.top_of-top.result _ _ _ _ _ v (tops_queue _ _ _ _ _ _ _ _ _ _ c.loop-looks.invariant c.top_of-top.result c.top_of-top.ensures) c.in-At.is
@@ -107,7 +107,7 @@ loop-looks-preserved c =
     (walks c.loop-looks.self.threads _ _ _ (lives_are _ _ _ _ _ _ _ _ _ _ c.loop-looks.invariant) c.walk-chain.ensures)
     (elim c.if-e-lt128.branch [ then-e-lt128 o ↦ held c.loop-looks.self.threads _ _ _ c.index-e.ensures o.hold-is | else-e-lt128 o ↦ held_none c.loop-looks.self.threads _ _ _ c.loop-looks.invariant.threads c.index-e.ensures o.if-e-lt128.false o.hold-is ])
     c.judged-said.ensures
-    is in look') c.judged-said.result refl) before-it
+    is in look') c.judged-said.result refl) before_it
     (rw c.freed_by-set.ensures at free)
 
 pub returns : goal.returns

@@ -19,7 +19,7 @@ use Rattle.rules.proofs.Bounds.{turns_room}
 use Rattle.rules.proofs.Basics.Views.{and_true_both}
 use Rattle.neighbours.specs.Sides.{sides}
 use Rattle.neighbours.specs.Forming.{Linked}
-use Rattle.dispatcher.proofs.TimesliceChanges.{gift, gift-shown, gift-exact, joined_to}
+use Rattle.dispatcher.proofs.TimesliceChanges.{gift, gift_shown, gift_exact, joined_to}
 use Rattle.dispatcher.proofs.ThreadChanges.{read, choosable}
 use Rattle.dispatcher.proofs.Machine.dispatch_give.Goals as goal
 
@@ -76,7 +76,7 @@ overflow_add-self c =
 pub overtaken-requires : goal.overtaken-requires
 overtaken-requires c =
     let ok = sound_stored _ c.requires in
-    choosable _ (gift-exact c.args.self _ _ _ _ _ c.index-j.ensures _ ((let roomy' : c.args.self.live_timeslices < 128 = let shape = (sound_of (shown c.args.self) (sound_shown c.args.self c.requires)).mid.shape in
+    choosable _ (gift_exact c.args.self _ _ _ _ _ c.index-j.ensures _ ((let roomy' : c.args.self.live_timeslices < 128 = let shape = (sound_of (shown c.args.self) (sound_shown c.args.self c.requires)).mid.shape in
     let few = turns_room (forget (shown c.args.self)) shape c.args.t (omega (arith, c.if-t-gt127.false)) ((let unlisted-here' : member c.args.t (shown c.args.self).order ≡ false = says_listed c.args.self (sound_stored c.args.self c.requires) _ _ false (omega (arith, c.if-t-gt127.false)) c.is_listed.ensures c.if-is_listed.false in unlisted-here')) in
     omega (arith, few, turns_many c.args.self (sound_stored c.args.self c.requires)) in roomy')) ok ((let appended-here' : Linked (sides c.append.new.before c.append.new.after) (last c.args.t (shown c.args.self).order) = c.append.ensures.turned (shown c.args.self).order (turns_linked c.args.self (sound_stored c.args.self c.requires))
     (and_true_both (ltb c.args.t limit) (not (member c.args.t (shown c.args.self).order)) (lt-ltb c.args.t limit (omega (arith, c.if-t-gt127.false)))
@@ -105,7 +105,7 @@ returns c =
     (joined_to c.args.t (gift c.args.self _ c.args.t c.args.n c.args.priority c.args.quantum c.index-j.ensures longer ((let roomy' : c.args.self.live_timeslices < 128 = let shape = (sound_of (shown c.args.self) (sound_shown c.args.self c.requires)).mid.shape in
     let few = turns_room (forget (shown c.args.self)) shape c.args.t (omega (arith, c.if-t-gt127.false)) ((let unlisted-here' : member c.args.t (shown c.args.self).order ≡ false = says_listed c.args.self (sound_stored c.args.self c.requires) _ _ false (omega (arith, c.if-t-gt127.false)) c.is_listed.ensures c.if-is_listed.false in unlisted-here')) in
     omega (arith, few, turns_many c.args.self (sound_stored c.args.self c.requires)) in roomy'))) _ _
-    (gift-shown c.args.self _ c.args.t c.args.n c.args.priority c.args.quantum c.index-j.ensures longer ((let roomy' : c.args.self.live_timeslices < 128 = let shape = (sound_of (shown c.args.self) (sound_shown c.args.self c.requires)).mid.shape in
+    (gift_shown c.args.self _ c.args.t c.args.n c.args.priority c.args.quantum c.index-j.ensures longer ((let roomy' : c.args.self.live_timeslices < 128 = let shape = (sound_of (shown c.args.self) (sound_shown c.args.self c.requires)).mid.shape in
     let few = turns_room (forget (shown c.args.self)) shape c.args.t (omega (arith, c.if-t-gt127.false)) ((let unlisted-here' : member c.args.t (shown c.args.self).order ≡ false = says_listed c.args.self (sound_stored c.args.self c.requires) _ _ false (omega (arith, c.if-t-gt127.false)) c.is_listed.ensures c.if-is_listed.false in unlisted-here')) in
     omega (arith, few, turns_many c.args.self (sound_stored c.args.self c.requires)) in roomy')) ok k)
     c.overtaken.ensures)

@@ -2,7 +2,7 @@
 use native.Mathlib.Omega.{arith}
 use Rattle.dispatcher.specs.Shown.{shown}
 use Rattle.dispatcher.proofs.Stored.{turns_linked}
-use Rattle.dispatcher.proofs.TimesliceChanges.{some_live, fewer-exact, struck-shown}
+use Rattle.dispatcher.proofs.TimesliceChanges.{some_live, fewer_exact, struck_shown}
 use Rattle.dispatcher.proofs.Machine.struck_out.Goals as goal
 
 pub offset_bounds-self-k : goal.offset_bounds-self-k
@@ -19,6 +19,6 @@ pub returns : goal.returns
 returns c =
     let out = c.strike_out.ensures.turned (shown c.args.self).order (turns_linked c.args.self c.requires.choosable.exact) c.requires.listed in
     record {
-      state = struck-shown c.args.self c.args.t c.requires.choosable.exact c.requires.listed _ out _ c.index-k.ensures _ c.release-free.ensures;
-      exact = fewer-exact c.args.self c.args.t c.requires.choosable.exact c.requires.listed _ out _;
+      state = struck_shown c.args.self c.args.t c.requires.choosable.exact c.requires.listed _ out _ c.index-k.ensures _ c.release-free.ensures;
+      exact = fewer_exact c.args.self c.args.t c.requires.choosable.exact c.requires.listed _ out _;
     }

@@ -7,7 +7,7 @@ use Rattle.timeslices.proofs.Forward.{says_top, says_one}
 use Rattle.dispatcher.specs.declared.Machine.{Machine}
 use Rattle.dispatcher.specs.Shown.{shown}
 use Rattle.dispatcher.specs.Choosing.{Choosable}
-use Rattle.dispatcher.proofs.Settles.{Alone, alone_moved, alone_past, none_released, first-released, freed-exact, alone_settled}
+use Rattle.dispatcher.proofs.Settles.{Alone, alone_moved, alone_past, none_released, first_released, freed_exact, alone_settled}
 use Rattle.dispatcher.proofs.Machine.waiters_released.Goals.{else-k-lt128, then-k-lt128}
 use native.Mathlib.Omega.{arith}
 use mathlib.Core.Path.{◌≡◌}
@@ -20,12 +20,12 @@ overtaken-requires c =
     let full : length c.args.self.timeslices ≡ 128 = omega arith in
     elim c.if-k-lt128.branch [ then-k-lt128 o ↦ alone_moved c.args.n c.args.self c.in-One.q _ c.if-k-lt128.self c.index-k.ensures top one o.self-is | else-k-lt128 o ↦ alone_past c.args.n c.args.self c.in-One.q _ c.if-k-lt128.self c.index-k.ensures top one full o.if-k-lt128.false o.self-is ] in alone') in
     let top = sym (says_top _ _ _ c.members_of-waiters.ensures (One _) c.in-One.is) in
-    subst (λ (o : Machine). Choosable o 0) (sym a.others) (freed-exact _ c.args.self _ _ top a.placed c.requires)
+    subst (λ (o : Machine). Choosable o 0) (sym a.others) (freed_exact _ c.args.self _ _ top a.placed c.requires)
 
 pub overtaken-requires-in-Several : goal.overtaken-requires-in-Several
 overtaken-requires-in-Several c =
     let top = sym (says_top _ _ _ c.members_of-waiters.ensures (Several _) c.in-Several.is) in
-    freed-exact _ c.args.self _ _ top c.released-free.ensures c.requires
+    freed_exact _ c.args.self _ _ top c.released-free.ensures c.requires
 
 pub returns-in-None : goal.returns-in-None
 returns-in-None c =
@@ -43,4 +43,4 @@ returns-after-k-lt128 c =
 pub returns-in-Several : goal.returns-in-Several
 returns-in-Several c =
     let top = sym (says_top _ _ _ c.members_of-waiters.ensures (Several _) c.in-Several.is) in
-    first-released _ c.args.self _ _ top c.released-free.ensures _ c.overtaken-in-Several.ensures
+    first_released _ c.args.self _ _ top c.released-free.ensures _ c.overtaken-in-Several.ensures

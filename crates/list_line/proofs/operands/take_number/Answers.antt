@@ -1,6 +1,6 @@
 -- The scans find no word, or one that is no number, too large, or taken.
 use Rattle.list_line.proofs.Scans.{no_word, word_there, word_within}
-use Rattle.list_line.proofs.Taking.{takes_none, takes-no-number, takes-above, takes}
+use Rattle.list_line.proofs.Taking.{takes_none, takes_no_number, takes_above, takes}
 use mathlib.Core.Path.{sym, ◌∙◌}
 use native.Mathlib.Omega.{arith}
 use Rattle.list_line.proofs.operands.take_number.Goals as goal
@@ -14,13 +14,13 @@ pub returns-then-n-eq65537-clause-takes_number : goal.returns-then-n-eq65537-cla
 returns-then-n-eq65537-clause-takes_number c =
     let there = word_there c.args.line.now c.args.at c.scan-start.result c.scan-start.ensures c.scan-end.result c.if-start-line.false
     c.scan-end.ensures in
-    takes-no-number c.args.line.now c.args.at _ _ _ _ _ there (sym c.if-n-eq65537.true ∙ c.number-n.ensures)
+    takes_no_number c.args.line.now c.args.at _ _ _ _ _ there (sym c.if-n-eq65537.true ∙ c.number-n.ensures)
 
 pub returns-then-most-n-clause-takes_number : goal.returns-then-most-n-clause-takes_number
 returns-then-most-n-clause-takes_number c =
     let there = word_there c.args.line.now c.args.at c.scan-start.result c.scan-start.ensures c.scan-end.result c.if-start-line.false
     c.scan-end.ensures in
-    takes-above c.args.line.now c.args.at _ _ _ _ _ there c.number-n.result c.number-n.ensures c.if-n-eq65537.false
+    takes_above c.args.line.now c.args.at _ _ _ _ _ there c.number-n.result c.number-n.ensures c.if-n-eq65537.false
     c.if-most-n.true (omega arith) c.requires
 
 pub returns-clause-takes_number : goal.returns-clause-takes_number

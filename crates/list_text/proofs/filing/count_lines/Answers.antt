@@ -1,5 +1,5 @@
 -- The loop's invariant: the lines that are left are counted as the whole text is.
-use Rattle.list_text.proofs.Counting.{counting_begins, line_within, counted-wrong, counted-all, counted-on}
+use Rattle.list_text.proofs.Counting.{counting_begins, line_within, counted_wrong, counted_all, counted_on}
 use native.Mathlib.Omega.{arith}
 use Rattle.list_text.proofs.filing.count_lines.Goals as goal
 
@@ -21,12 +21,12 @@ count_line-count-requires c = c.loop-count.invariant.small
 
 pub returns-then-count : goal.returns-then-count
 returns-then-count c =
-    counted-wrong c.loop-count.invariant c.scan-end.ensures c.line_of-read.ensures c.count_line-count.ensures.counts
+    counted_wrong c.loop-count.invariant c.scan-end.ensures c.line_of-read.ensures c.count_line-count.ensures.counts
     c.if-count.true
 
 pub returns-then-end-text : goal.returns-then-end-text
 returns-then-end-text c =
-    counted-all c.loop-count.invariant c.scan-end.ensures c.line_of-read.ensures c.count_line-count.ensures.counts
+    counted_all c.loop-count.invariant c.scan-end.ensures c.line_of-read.ensures c.count_line-count.ensures.counts
     c.if-count.false
     c.if-end-text.true
 
@@ -42,6 +42,6 @@ loop-count-smaller c =
 
 pub loop-count-preserved : goal.loop-count-preserved
 loop-count-preserved c =
-    counted-on c.loop-count.invariant c.scan-end.ensures c.line_of-read.ensures c.count_line-count.ensures.counts
+    counted_on c.loop-count.invariant c.scan-end.ensures c.line_of-read.ensures c.count_line-count.ensures.counts
     c.if-count.false
     c.if-end-text.false c.count_line-count.ensures.bounded

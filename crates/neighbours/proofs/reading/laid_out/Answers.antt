@@ -2,7 +2,7 @@
 use native.Mathlib.Omega.{arith}
 use Rattle.tables.specs.Turning.{entries_of}
 use Rattle.neighbours.specs.Sides.{sentinel}
-use Rattle.neighbours.proofs.Stepping.{read_none, read_one, read-this, lay_none, lay_one, lay_all, length-turns}
+use Rattle.neighbours.proofs.Stepping.{read_none, read_one, read_this, lay_none, lay_one, lay_all, length-turns}
 use Rattle.neighbours.proofs.reading.laid_out.Goals as goal
 
 pub loop-i-init : goal.loop-i-init
@@ -19,7 +19,7 @@ loop-i-smaller c = omega arith
 
 pub loop-i-preserved : goal.loop-i-preserved
 loop-i-preserved c =
-    let this = read-this _ _ _ _ _ _ c.loop-i.invariant.0 c.loop-i-test.true c.neighbour-t.ensures in (
+    let this = read_this _ _ _ _ _ _ c.loop-i.invariant.0 c.loop-i-test.true c.neighbour-t.ensures in (
       read_one _ _ _ _ _ _ c.loop-i.invariant.0 c.loop-i-test.true c.neighbour-t.ensures,
       lay_one _ _ _ _ c.loop-i.invariant.1 (omega (arith, c.loop-i.invariant.0.last, length-turns (entries_of c.args.live) c.args.after.now sentinel))
           (omega (arith, c.loop-i.invariant.0.last)) this,

@@ -3,7 +3,7 @@ use mathlib.Core.Path.{refl, ap, ◌∙◌}
 use native.Mathlib.Omega.{arith}
 use Rattle.tables.specs.Sets.{sought_of}
 use Rattle.tables.specs.Verdicts.{verdict_of}
-use Rattle.plain_engine.proofs.Rounds.{begin, out, nothing_runs_lem, one-runs, one-retries, one-stays}
+use Rattle.plain_engine.proofs.Rounds.{begin, out, nothing_runs_lem, one_runs, one_retries, one_stays}
 use Rattle.plain_engine.proofs.PlainMachine.judged.Goals as goal
 
 pub overflow_add-rounds : goal.overflow_add-rounds
@@ -22,7 +22,7 @@ returns-in-Nothing c =
 
 pub returns-in-Runs : goal.returns-in-Runs
 returns-in-Runs c =
-    one-runs _ c.loop-rounds.self c.loop-rounds.invariant c.loop-rounds-test.true _ c.topmost_runnable-top.ensures _
+    one_runs _ c.loop-rounds.self c.loop-rounds.invariant c.loop-rounds-test.true _ c.topmost_runnable-top.ensures _
     (ap sought_of c.in-At.is) _ c.slice_at-x.ensures _ c.chain_from-chain.ensures _ c.verdict_of-said.ensures
     (ap verdict_of c.in-Runs.is)
 
@@ -31,13 +31,13 @@ loop-rounds-smaller c = omega arith
 
 pub loop-rounds-preserved : goal.loop-rounds-preserved
 loop-rounds-preserved c =
-    one-retries _ c.loop-rounds.self c.loop-rounds.invariant c.loop-rounds-test.true _ c.topmost_runnable-top.ensures _
+    one_retries _ c.loop-rounds.self c.loop-rounds.invariant c.loop-rounds-test.true _ c.topmost_runnable-top.ensures _
     (ap sought_of c.in-At.is) _ c.slice_at-x.ensures _ c.chain_from-chain.ensures _ c.verdict_of-said.ensures
     _ (ap verdict_of c.in-Retries.is) c.donated-next.ensures
 
 pub returns-in-Waits : goal.returns-in-Waits
 returns-in-Waits c =
-    one-stays _ c.loop-rounds.self c.loop-rounds.invariant c.loop-rounds-test.true _ c.topmost_runnable-top.ensures _
+    one_stays _ c.loop-rounds.self c.loop-rounds.invariant c.loop-rounds-test.true _ c.topmost_runnable-top.ensures _
     (ap sought_of c.in-At.is) _ c.slice_at-x.ensures _ c.chain_from-chain.ensures _ c.verdict_of-said.ensures
     _ c.in-Waits.is refl
 

@@ -1,7 +1,7 @@
 -- Of the rows passed none is bad.
 use mathlib.Core.Path.{sym, ◌∙◌}
 use Rattle.ranking_table.specs.Ranking.{any_bad}
-use Rattle.ranking_table.proofs.Passing.{none_passed, open_none, settled, open_next, open-last, bad_here, good_here}
+use Rattle.ranking_table.proofs.Passing.{none_passed, open_none, settled, open_next, open_last, bad_here, good_here}
 use Rattle.ranking_table.proofs.faults.has_bad_row.Goals as goal
 
 pub loop-k-init : goal.loop-k-init
@@ -19,4 +19,4 @@ loop-k-preserved c =
 
 pub returns : goal.returns
 unfolding any_bad
-returns c = open-last any_bad c.loop-k.invariant c.loop-k-test.false
+returns c = open_last any_bad c.loop-k.invariant c.loop-k-test.false

@@ -1,7 +1,7 @@
 -- Of the rows passed none holds the interval.
 use mathlib.Core.Path.{sym, ◌∙◌}
 use Rattle.ranking_table.specs.Ranking.{priority_in}
-use Rattle.ranking_table.proofs.Passing.{none_passed, open_none, settled, open_next, open-last, priority_here, priority_later}
+use Rattle.ranking_table.proofs.Passing.{none_passed, open_none, settled, open_next, open_last, priority_here, priority_later}
 use Rattle.ranking_table.proofs.rows.priority_in.Invariants.{priority}
 use Rattle.ranking_table.proofs.rows.priority_in.Goals as goal
 
@@ -20,4 +20,4 @@ loop-k-preserved c =
 
 pub returns : goal.returns
 unfolding priority_in
-returns c = open-last (priority _) c.loop-k.invariant c.loop-k-test.false
+returns c = open_last (priority _) c.loop-k.invariant c.loop-k-test.false

@@ -4,7 +4,7 @@ use mathlib.Core.Path.{sym, ap, ◌∙◌}
 use Rattle.event_file.specs.Answers.{shown_found}
 use Rattle.event_file.proofs.Steps.{not_record}
 use Rattle.shorten_sheet.proofs.Going.{Turn, onward}
-use Rattle.shorten_sheet.proofs.Asking.{asking, none_asked, asked_here, asked-on}
+use Rattle.shorten_sheet.proofs.Asking.{asking, none_asked, asked_here, asked_on}
 use Rattle.shorten_sheet.proofs.ask.ask.Goals as goal
 
 pub loop-event-init : goal.loop-event-init
@@ -41,7 +41,7 @@ loop-event-smaller c =
 
 pub loop-event-preserved : goal.loop-event-preserved
 loop-event-preserved c =
-    asked-on c.loop-event.invariant ((let turn' : Turn c.args.file.now c.loop-event.at c.step-read.result.offset c.loop-event.machine
+    asked_on c.loop-event.invariant ((let turn' : Turn c.args.file.now c.loop-event.at c.step-read.result.offset c.loop-event.machine
     c.in-Record.event c.dispatch-answered.result = record {
       narrow = λ i. (c.shared_slice_known-1.given i).fits;
       found = sym (ap shown_found c.in-Record.is) ∙ c.step-read.ensures.0;

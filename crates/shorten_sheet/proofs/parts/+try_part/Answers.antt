@@ -2,8 +2,8 @@
 use native.Mathlib.Omega.{arith}
 use mathlib.Core.Path.{sym, ◌∙◌}
 use Rattle.dispatcher.specs.Shown.{shown}
-use Rattle.shorten_sheet.proofs.Halves.{within, untried_some, reached-below}
-use Rattle.shorten_sheet.proofs.Trying.{none_tried, left_out, stays, second-apart, first-apart, halves-keep}
+use Rattle.shorten_sheet.proofs.Halves.{within, untried_some, reached_below}
+use Rattle.shorten_sheet.proofs.Trying.{none_tried, left_out, stays, second_apart, first_apart, halves_keep}
 use Rattle.shorten_sheet.proofs.parts.+try_part.Goals as goal
 
 -- nothing to try
@@ -20,21 +20,21 @@ reach-half-requires t c = (c.requires.0.front, c.requires.1, untried_some c.requ
 pub try_part-kept-requires : goal.try_part-kept-requires
 try_part-kept-requires t c =
     let x = c.reach-half.ensures in (
-      omega (arith, c.if-from-middle.true, reached-below c.requires.0 x),
-      (second-apart c.args.number (shown c.args.start) c.requires.0 x, x.sound),
+      omega (arith, c.if-from-middle.true, reached_below c.requires.0 x),
+      (second_apart c.args.number (shown c.args.start) c.requires.0 x, x.sound),
     )
 
 -- the first half
 pub try_part-requires : goal.try_part-requires
 try_part-requires t c =
     let x = c.reach-half.ensures in (
-      omega (arith, c.if-from-middle.true, reached-below c.requires.0 x),
-      (first-apart c.args.number (shown c.args.start) c.requires.0 x c.try_part-kept.ensures, c.requires.1),
+      omega (arith, c.if-from-middle.true, reached_below c.requires.0 x),
+      (first_apart c.args.number (shown c.args.start) c.requires.0 x c.try_part-kept.ensures, c.requires.1),
     )
 
 pub returns-then-from-middle : goal.returns-then-from-middle
 returns-then-from-middle t c =
-    halves-keep c.args.number (shown c.args.start) c.requires.0 c.reach-half.ensures c.try_part-kept.ensures c.try_part.ensures
+    halves_keep c.args.number (shown c.args.start) c.requires.0 c.reach-half.ensures c.try_part-kept.ensures c.try_part.ensures
 
 pub ask-asked-requires : goal.ask-asked-requires
 ask-asked-requires t c = (c.requires.0.rear, c.requires.1)

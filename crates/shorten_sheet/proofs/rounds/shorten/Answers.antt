@@ -4,7 +4,7 @@ use mathlib.Core.Path.{sym, ap, ◌∙◌}
 use lib.Seq.{length-take-le}
 use Rattle.dispatcher.specs.Shown.{sound_machine}
 use Rattle.dispatcher.proofs.Runs.{empty_machine_sound}
-use Rattle.shorten_sheet.proofs.Shortening.{all_events, round_read, part-inside, round-apart, done}
+use Rattle.shorten_sheet.proofs.Shortening.{all_events, round_read, part_inside, round_apart, done}
 use Rattle.shorten_sheet.proofs.rounds.shorten.Goals as goal
 
 pub loop-from-init : goal.loop-from-init
@@ -17,15 +17,15 @@ pub ask-asked-requires : goal.ask-asked-requires
 ask-asked-requires c = (round_read c.loop-from.invariant, ap sound_machine c.empty.ensures ∙ empty_machine_sound)
 
 pub slice_bounds-try_part-end : goal.slice_bounds-try_part-end
-slice_bounds-try_part-end c = part-inside c.loop-from.invariant c.empty.ensures c.ask-asked.ensures
+slice_bounds-try_part-end c = part_inside c.loop-from.invariant c.empty.ensures c.ask-asked.ensures
 
 pub slice_bounds-try_part-end-in-loop-from : goal.slice_bounds-try_part-end-in-loop-from
 slice_bounds-try_part-end-in-loop-from c =
-    sym (length-take-le _ _ (part-inside c.loop-from.invariant c.empty.ensures c.ask-asked.ensures))
+    sym (length-take-le _ _ (part_inside c.loop-from.invariant c.empty.ensures c.ask-asked.ensures))
 
 pub try_part-first-requires : goal.try_part-first-requires
 try_part-first-requires c = (
-  round-apart c.loop-from.invariant c.empty.ensures c.ask-asked.ensures,
+  round_apart c.loop-from.invariant c.empty.ensures c.ask-asked.ensures,
   ap sound_machine c.empty-in-loop-from.ensures ∙ empty_machine_sound,
 )
 
