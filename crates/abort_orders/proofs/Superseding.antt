@@ -70,7 +70,7 @@ module _ (store : Store) (n number : ℕ) where
     comes =
         record {
           no_thread = λ above. rw (refused_2 above) (refl, refl);
-          not_above_lem = λ small held holds not_above_lem. rw (refused_27 small (held_above held holds not_above_lem)) (refl, refl);
+          too_low = λ small held holds too_low. rw (refused_27 small (held_above held holds too_low)) (refl, refl);
           taken = λ small less.
               let accepted = not_refused small (held_below less) in
               (given_number (order_refusal store n number) order ∙ accepted, supersedes accepted);

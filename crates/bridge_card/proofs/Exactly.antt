@@ -38,7 +38,7 @@ found_lowest : (test : ℕ → Bool) (line : ℕ) → line < 8 → test line ≡
 found_lowest test line small here lower none f = clash (test line) here (f line (omega arith) small)
 found_lowest test line small here lower (some k) f =
     let not_below : (k < line) → ⊥ = λ h. clash (test k) f.passes (lower k h) in
-    let not_above_lem : (line < k) → ⊥ = λ h. clash (test line) here (f.first line (omega arith) h) in
+    let not_above : (line < k) → ⊥ = λ h. clash (test line) here (f.first line (omega arith) h) in
     let this : k ≡ line = omega arith in
     ap some this
 

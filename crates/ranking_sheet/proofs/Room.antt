@@ -15,7 +15,7 @@ use Rattle.text.proofs.Enough.{enough_for_one}
 use Rattle.ranking_table.specs.declared.Row.{Row}
 use Rattle.ranking_table.specs.declared.Answer.{Answer}
 use Rattle.ranking_table.specs.Ranking.{lookup}
-use Rattle.ranking_table.specs.Good.{row_at, Judged, too_many, bad_row_lem, overlapping, gaping, good, Outcome, bad_table, outside, found}
+use Rattle.ranking_table.specs.Good.{row_at, Judged, too_many, a_bad_row, overlapping, gaping, good, Outcome, bad_table, outside, found}
 use Rattle.ranking_table.proofs.Rankings.{lookup_true}
 use Rattle.ranking_sheet.specs.Sheet.{rows_from, rows_in, intervals_at, intervals_from, intervals_in, input_refusal}
 use Rattle.ranking_sheet.specs.Sheet.{answer_line, answer_lines, ranking_after, ranking}
@@ -29,7 +29,7 @@ record Small (a : Answer) : Type 0 where
 
 small_fault : {rows : List Row} {a : Answer} → Judged rows a → Small a
 small_fault (too_many h) = record { number = omega arith; priority = omega arith; interval = omega arith }
-small_fault (bad_row_lem h) = record { number = omega arith; priority = omega arith; interval = omega arith }
+small_fault (a_bad_row h) = record { number = omega arith; priority = omega arith; interval = omega arith }
 small_fault (overlapping j formed s) = record { number = omega arith; priority = omega arith; interval = s.interval.1 }
 small_fault (gaping j formed s apart) = record { number = omega arith; priority = omega arith; interval = s.interval.1 }
 small_fault (good g) = record { number = omega arith; priority = omega arith; interval = omega arith }

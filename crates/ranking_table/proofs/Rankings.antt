@@ -17,7 +17,7 @@ use Rattle.ranking_table.specs.declared.Answer.{Answer}
 use Rattle.ranking_table.specs.Ranking.{in_range, holding, missing, in_two, overlap, gap, any_bad}
 use Rattle.ranking_table.specs.Ranking.{accepted, fault, answer_by, lookup}
 use Rattle.ranking_table.specs.Good.{row_at, Interval, InOne, InTwo, Missing, Formed, Good, SmallestOf}
-use Rattle.ranking_table.specs.Good.{Judged, too_many, bad_row_lem, overlapping, gaping, good}
+use Rattle.ranking_table.specs.Good.{Judged, too_many, a_bad_row, overlapping, gaping, good}
 use Rattle.ranking_table.specs.Good.{Outcome, bad_table, outside, found}
 use Rattle.ranking_table.proofs.Counting.{Count, in_none, in_one, in_more, counted, missing_of, of_missing, two_of, of_two}
 use Rattle.ranking_table.proofs.Counting.{not_two, priority_of}
@@ -103,7 +103,7 @@ module _ (rows : List Row) where
       by_overlap few fine (no_false h) = by_gap few fine (leb-false (overlap rows) 60000 h) (two (leb (gap rows) 60000))
 
       by_bad : (few : length rows ≤ 64) → Two (any_bad rows) → Judged rows (fault rows)
-      by_bad few (yes_true h) = rw (row_fault rows h) (bad_row_lem (bad_of rows h))
+      by_bad few (yes_true h) = rw (row_fault rows h) (a_bad_row (bad_of rows h))
       by_bad few (no_false h) = by_overlap few h (two (leb (overlap rows) 60000))
 
       by_many : Two (ltb 64 (length rows)) → Judged rows (fault rows)
@@ -113,7 +113,7 @@ module _ (rows : List Row) where
   -- and what a lookup says then
   answer_true : (i : ℕ) {a : Answer} → Judged rows a → Outcome rows i (answer_by a rows i)
   answer_true i (too_many h) = bad_table (too_many h) (λ e. omega arith)
-  answer_true i (bad_row_lem h) = bad_table (bad_row_lem h) (λ e. omega arith)
+  answer_true i (a_bad_row h) = bad_table (a_bad_row h) (λ e. omega arith)
   answer_true i (overlapping j formed s) = bad_table (overlapping j formed s) (λ e. omega arith)
   answer_true i (gaping j formed s apart) = bad_table (gaping j formed s apart) (λ e. omega arith)
   answer_true i (good g) = by (two (in_range i))
@@ -135,14 +135,14 @@ module _ (rows : List Row) where
     where
       only_if : {a : Answer} → Judged rows a → a.refusal ≡ 0 → Good rows
       only_if (too_many h) e = absurd (omega arith)
-      only_if (bad_row_lem h) e = absurd (omega arith)
+      only_if (a_bad_row h) e = absurd (omega arith)
       only_if (overlapping j formed s) e = absurd (omega arith)
       only_if (gaping j formed s apart) e = absurd (omega arith)
       only_if (good g) e = g
 
       if : {a : Answer} → Judged rows a → Good rows → a ≡ accepted 0
       if (too_many h) g = absurd (omega (arith, g.formed.few))
-      if (bad_row_lem b) g = absurd (b.not_within (g.formed.within b.number b.listed))
+      if (a_bad_row b) g = absurd (b.not_within (g.formed.within b.number b.listed))
       if (overlapping j formed s) g = absurd (not_two rows j (g.once j s.interval) s.holds)
       if (gaping j formed s apart) g = let one = g.once j s.interval in absurd (s.holds one.row one.holds)
       if (good _) g = refl

@@ -71,7 +71,7 @@ pub record Bad (rows : List Row) : Type 0 where
 pub data Judged (rows : List Row) : Answer → Type 0 where
   -- "23, a row outside the range or with first above last, or more than 64 rows"
   too_many : 64 < length rows → Judged rows (refused 23 0)
-  bad_row_lem : Bad rows → Judged rows (refused 23 0)
+  a_bad_row : Bad rows → Judged rows (refused 23 0)
   -- "24, overlap": "the smallest interval in two rows or more"
   overlapping : (j : ℕ) → Formed rows → SmallestOf (InTwo rows) j → Judged rows (refused 24 j)
   -- "25, gap": "the smallest interval missing", where none is in two rows

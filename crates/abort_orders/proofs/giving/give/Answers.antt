@@ -12,8 +12,8 @@ returns-then-thread-gt127 c =
 
 pub returns-then-is_not_above : goal.returns-then-is_not_above
 returns-then-is_not_above c =
-    let not_above_lem = sym c.is_not_above.ensures ∙ c.if-is_not_above.true in
-    let number = refused_27 c.args.store c.args.thread c.args.number c.if-thread-gt127.false not_above_lem in
+    let too_low = sym c.is_not_above.ensures ∙ c.if-is_not_above.true in
+    let number = refused_27 c.args.store c.args.thread c.args.number c.if-thread-gt127.false too_low in
     ap (λ (k : ℕ). given_after k c.args.store c.args.thread c.args.order) (sym number)
 
 pub returns : goal.returns
