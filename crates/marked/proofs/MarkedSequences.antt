@@ -139,7 +139,7 @@ at t p = record { timeslice = t; place = p }
 
 infix 70 ◌with_links◌
 abbrev ◌with_links◌ : String → String → Line
-c with-links l = record { columns = c; links = l }
+c with_links l = record { columns = c; links = l }
 
 unfoldable pub K1 : Row
 K1 =
@@ -149,9 +149,9 @@ K1 =
           ∷ 0x00 ∷ 0x64 ∷ 0x02 ∷ 0x03 ∷ 0x01 ∷ 0x03 ∷ 0x07 ∷ 0x00 ∷ 0x1E ∷ 0x01 ∷ 0x04 ∷ 0x01 ∷ 0x04 ∷ [];
       prints =
           lines
-          ("1 ok 0 - - 0" with-links "0" ∷ "2 ok 0 - - 0" with-links "0" ∷ "3 ok 0 0 5 0" with-links "0"
-          ∷ "4 ok 0 1 5 1" with-links "0" ∷ "5 ok 0 1 5 1" with-links "0"
-          ∷ "6 ok 0 0 5 0" with-links "0" ∷ "7 no 8 0 5 0" with-links "0" ∷ []);
+          ("1 ok 0 - - 0" with_links "0" ∷ "2 ok 0 - - 0" with_links "0" ∷ "3 ok 0 0 5 0" with_links "0"
+          ∷ "4 ok 0 1 5 1" with_links "0" ∷ "5 ok 0 1 5 1" with_links "0"
+          ∷ "6 ok 0 0 5 0" with_links "0" ∷ "7 no 8 0 5 0" with_links "0" ∷ []);
       places = at 5 Queue ∷ [];
     }
 
@@ -162,9 +162,9 @@ two =
 
 unfoldable pub two_prints : List Line
 two_prints =
-    "1 ok 0 - - 0" with-links "0" ∷ "2 ok 0 - - 0" with-links "0" ∷ "3 ok 0 - - 0" with-links "0" ∷ "4 ok 0 0 0 0" with-links "0"
-    ∷ "5 ok 0 1 0 1" with-links "0"
-    ∷ "6 ok 0 2 2 0" with-links "0" ∷ "7 ok 0 1 2 0" with-links "1" ∷ []
+    "1 ok 0 - - 0" with_links "0" ∷ "2 ok 0 - - 0" with_links "0" ∷ "3 ok 0 - - 0" with_links "0" ∷ "4 ok 0 0 0 0" with_links "0"
+    ∷ "5 ok 0 1 0 1" with_links "0"
+    ∷ "6 ok 0 2 2 0" with_links "0" ∷ "7 ok 0 1 2 0" with_links "1" ∷ []
 
 unfoldable pub K2 : Row
 K2 = record { file = file_of two; prints = lines two_prints; places = at 0 Queue ∷ at 2 Queue ∷ [] }
@@ -173,7 +173,7 @@ unfoldable pub K3 : Row
 K3 =
     record {
       file = file_of (two ++ (Reply ∷ []));
-      prints = lines (two_prints ++ ("8 ok 0 1 2 1" with-links "2" ∷ []));
+      prints = lines (two_prints ++ ("8 ok 0 1 2 1" with_links "2" ∷ []));
       places = at 0 Queue ∷ at 2 Queue ∷ [];
     }
 
@@ -181,7 +181,7 @@ unfoldable pub four : List Event
 four = two ++ (Reply ∷ Block ∷ Call 1 ∷ [])
 
 unfoldable pub four_prints : List Line
-four_prints = two_prints ++ ("8 ok 0 1 2 1" with-links "2" ∷ "9 ok 0 0 0 0" with-links "1" ∷ "10 ok 0 - - 0" with-links "1" ∷ [])
+four_prints = two_prints ++ ("8 ok 0 1 2 1" with_links "2" ∷ "9 ok 0 0 0 0" with_links "1" ∷ "10 ok 0 - - 0" with_links "1" ∷ [])
 
 unfoldable pub K4 : Row
 K4 = record { file = file_of four; prints = lines four_prints; places = at 0 (On 1) ∷ at 2 (On 1) ∷ [] }
@@ -190,7 +190,7 @@ unfoldable pub K5 : Row
 K5 =
     record {
       file = file_of (four ++ (Wake 1 ∷ []));
-      prints = lines (four_prints ++ ("11 ok 0 1 2 1" with-links "1" ∷ []));
+      prints = lines (four_prints ++ ("11 ok 0 1 2 1" with_links "1" ∷ []));
       places = at 0 (Behind 2) ∷ at 2 Queue ∷ [];
     }
 
@@ -198,8 +198,8 @@ unfoldable pub K6 : Row
 K6 =
     record {
       file = file_of (four ++ (Wake 1 ∷ Abort 2 ∷ Block ∷ []));
-      prints = lines (four_prints ++ ("11 ok 0 1 2 1" with-links "1" ∷ "12 ok 0 2 2 0" with-links "1"
-          ∷ "13 ok 0 1 0 0" with-links "1" ∷ []));
+      prints = lines (four_prints ++ ("11 ok 0 1 2 1" with_links "1" ∷ "12 ok 0 2 2 0" with_links "1"
+          ∷ "13 ok 0 1 0 0" with_links "1" ∷ []));
       places = at 0 Queue ∷ at 2 (On 2) ∷ [];
     }
 
@@ -208,9 +208,9 @@ seven = Create 0 Client ∷ Create 1 Server ∷ Create 2 Server ∷ Give 0 0 10 
 
 unfoldable pub seven_prints : List Line
 seven_prints =
-    "1 ok 0 - - 0" with-links "0" ∷ "2 ok 0 - - 0" with-links "0" ∷ "3 ok 0 - - 0" with-links "0" ∷ "4 ok 0 0 0 0" with-links "0"
-    ∷ "5 ok 0 1 0 1" with-links "0"
-    ∷ "6 ok 0 2 0 2" with-links "0" ∷ "7 ok 0 - - 0" with-links "3" ∷ []
+    "1 ok 0 - - 0" with_links "0" ∷ "2 ok 0 - - 0" with_links "0" ∷ "3 ok 0 - - 0" with_links "0" ∷ "4 ok 0 0 0 0" with_links "0"
+    ∷ "5 ok 0 1 0 1" with_links "0"
+    ∷ "6 ok 0 2 0 2" with_links "0" ∷ "7 ok 0 - - 0" with_links "3" ∷ []
 
 unfoldable pub K7 : Row
 K7 = record { file = file_of seven; prints = lines seven_prints; places = at 0 Stalled ∷ [] }
@@ -219,7 +219,7 @@ unfoldable pub K8 : Row
 K8 =
     record {
       file = file_of (seven ++ (Abort 2 ∷ []));
-      prints = lines (seven_prints ++ ("8 ok 0 2 0 2" with-links "5" ∷ []));
+      prints = lines (seven_prints ++ ("8 ok 0 2 0 2" with_links "5" ∷ []));
       places = at 0 Queue ∷ [];
     }
 
@@ -229,9 +229,9 @@ K9 =
       file = file_of (Create 0 Client ∷ Create 1 Client ∷ Give 0 0 10 5 ∷ Give 1 1 10 5 ∷ Charge 6 ∷ Charge 5 ∷ []);
       prints =
           lines
-          ("1 ok 0 - - 0" with-links "0" ∷ "2 ok 0 - - 0" with-links "0" ∷ "3 ok 0 0 0 0" with-links "0"
-          ∷ "4 ok 0 0 0 0" with-links "0" ∷ "5 no 11 0 0 0" with-links "0"
-          ∷ "6 ok 0 1 1 0" with-links "0" ∷ []);
+          ("1 ok 0 - - 0" with_links "0" ∷ "2 ok 0 - - 0" with_links "0" ∷ "3 ok 0 0 0 0" with_links "0"
+          ∷ "4 ok 0 0 0 0" with_links "0" ∷ "5 no 11 0 0 0" with_links "0"
+          ∷ "6 ok 0 1 1 0" with_links "0" ∷ []);
       places = at 0 Spent ∷ at 1 Queue ∷ [];
     }
 
@@ -242,7 +242,7 @@ unfoldable pub K11 : Row
 K11 =
     record {
       file = file_of (Create 127 Client ∷ Create 128 Client ∷ []);
-      prints = lines ("1 ok 0 - - 0" with-links "0" ∷ "2 no 2 - - 0" with-links "0" ∷ []);
+      prints = lines ("1 ok 0 - - 0" with_links "0" ∷ "2 no 2 - - 0" with_links "0" ∷ []);
       places = [];
     }
 
@@ -254,8 +254,8 @@ own_timeslice =
       file = file_of (Create 0 Client ∷ Create 1 Server ∷ Give 0 0 10 100 ∷ Give 1 1 30 100 ∷ Call 1 ∷ []);
       prints =
           lines
-          ("1 ok 0 - - 0" with-links "0" ∷ "2 ok 0 - - 0" with-links "0" ∷ "3 ok 0 0 0 0" with-links "0"
-          ∷ "4 ok 0 0 0 0" with-links "0" ∷ "5 ok 0 1 1 0" with-links "0" ∷ []);
+          ("1 ok 0 - - 0" with_links "0" ∷ "2 ok 0 - - 0" with_links "0" ∷ "3 ok 0 0 0 0" with_links "0"
+          ∷ "4 ok 0 0 0 0" with_links "0" ∷ "5 ok 0 1 1 0" with_links "0" ∷ []);
       places = at 0 Queue ∷ at 1 Queue ∷ [];
     }
 
@@ -270,10 +270,10 @@ refilled_in_turn =
           ∷ Refill 1 ∷ Refill 0 ∷ []);
       prints =
           lines
-          ("1 ok 0 - - 0" with-links "0" ∷ "2 ok 0 - - 0" with-links "0" ∷ "3 ok 0 0 0 0" with-links "0"
-          ∷ "4 ok 0 0 0 0" with-links "0" ∷ "5 ok 0 1 1 0" with-links "0" ∷ "6 no 2 1 1 0" with-links "0"
-          ∷ "7 no 4 1 1 0" with-links "0" ∷ "8 no 18 1 1 0" with-links "0" ∷ "9 ok 0 - - 0" with-links "0"
-          ∷ "10 ok 0 1 1 0" with-links "0" ∷ "11 ok 0 0 0 0" with-links "0" ∷ []);
+          ("1 ok 0 - - 0" with_links "0" ∷ "2 ok 0 - - 0" with_links "0" ∷ "3 ok 0 0 0 0" with_links "0"
+          ∷ "4 ok 0 0 0 0" with_links "0" ∷ "5 ok 0 1 1 0" with_links "0" ∷ "6 no 2 1 1 0" with_links "0"
+          ∷ "7 no 4 1 1 0" with_links "0" ∷ "8 no 18 1 1 0" with_links "0" ∷ "9 ok 0 - - 0" with_links "0"
+          ∷ "10 ok 0 1 1 0" with_links "0" ∷ "11 ok 0 0 0 0" with_links "0" ∷ []);
       places = at 0 Queue ∷ at 1 Queue ∷ [];
     }
 
@@ -285,10 +285,10 @@ leading =
 
 unfoldable pub leading_prints : List Line
 leading_prints =
-    "1 ok 0 - - 0" with-links "0" ∷ "2 ok 0 - - 0" with-links "0" ∷ "3 ok 0 - - 0" with-links "0" ∷ "4 ok 0 - - 0" with-links "0"
-    ∷ "5 ok 0 0 0 0" with-links "0" ∷ "6 ok 0 1 0 1" with-links "0" ∷ "7 ok 0 - - 0" with-links "1" ∷ "8 ok 0 2 2 0" with-links "0"
-    ∷ "9 ok 0 - - 0" with-links "1" ∷ "10 ok 0 3 3 0" with-links "0" ∷ "11 ok 0 - - 0" with-links "1"
-    ∷ "12 ok 0 1 2 0" with-links "1" ∷ []
+    "1 ok 0 - - 0" with_links "0" ∷ "2 ok 0 - - 0" with_links "0" ∷ "3 ok 0 - - 0" with_links "0" ∷ "4 ok 0 - - 0" with_links "0"
+    ∷ "5 ok 0 0 0 0" with_links "0" ∷ "6 ok 0 1 0 1" with_links "0" ∷ "7 ok 0 - - 0" with_links "1" ∷ "8 ok 0 2 2 0" with_links "0"
+    ∷ "9 ok 0 - - 0" with_links "1" ∷ "10 ok 0 3 3 0" with_links "0" ∷ "11 ok 0 - - 0" with_links "1"
+    ∷ "12 ok 0 1 2 0" with_links "1" ∷ []
 
 -- A depleted leader is Spent; of its followers 3 stands above and goes to Queue, 0 goes Behind that one, and the server is finished on a
 -- helper's time.
@@ -296,7 +296,7 @@ unfoldable pub spent_leader : Row
 spent_leader =
     record {
       file = file_of (leading ++ (Charge 9 ∷ []));
-      prints = lines (leading_prints ++ ("13 ok 0 1 3 0" with-links "1" ∷ []));
+      prints = lines (leading_prints ++ ("13 ok 0 1 3 0" with_links "1" ∷ []));
       places = at 0 (Behind 3) ∷ at 2 Spent ∷ at 3 Queue ∷ [];
     }
 
@@ -311,10 +311,10 @@ server_removed =
           ∷ Remove 128 ∷ Remove 1 ∷ Create 1 Client ∷ Call 1 ∷ []);
       prints =
           lines
-          ("1 ok 0 - - 0" with-links "0" ∷ "2 ok 0 - - 0" with-links "0" ∷ "3 ok 0 - - 0" with-links "0" ∷ "4 ok 0 0 0 0" with-links "0"
-          ∷ "5 ok 0 1 0 1" with-links "0" ∷ "6 ok 0 2 2 0" with-links "0" ∷ "7 ok 0 1 2 0" with-links "1"
-          ∷ "8 ok 0 2 2 0" with-links "0" ∷ "9 ok 0 0 0 0" with-links "0" ∷ "10 no 2 0 0 0" with-links "0"
-          ∷ "11 no 4 0 0 0" with-links "0" ∷ "12 ok 0 0 0 0" with-links "0" ∷ "13 no 6 0 0 0" with-links "0" ∷ []);
+          ("1 ok 0 - - 0" with_links "0" ∷ "2 ok 0 - - 0" with_links "0" ∷ "3 ok 0 - - 0" with_links "0" ∷ "4 ok 0 0 0 0" with_links "0"
+          ∷ "5 ok 0 1 0 1" with_links "0" ∷ "6 ok 0 2 2 0" with_links "0" ∷ "7 ok 0 1 2 0" with_links "1"
+          ∷ "8 ok 0 2 2 0" with_links "0" ∷ "9 ok 0 0 0 0" with_links "0" ∷ "10 no 2 0 0 0" with_links "0"
+          ∷ "11 no 4 0 0 0" with_links "0" ∷ "12 ok 0 0 0 0" with_links "0" ∷ "13 no 6 0 0 0" with_links "0" ∷ []);
       places = at 0 Queue ∷ at 2 (On 2) ∷ [];
     }
 
@@ -323,7 +323,7 @@ unfoldable pub leader_removed : Row
 leader_removed =
     record {
       file = file_of (leading ++ (Remove 2 ∷ []));
-      prints = lines (leading_prints ++ ("13 ok 0 1 3 0" with-links "2" ∷ []));
+      prints = lines (leading_prints ++ ("13 ok 0 1 3 0" with_links "2" ∷ []));
       places = at 0 (Behind 3) ∷ at 3 Queue ∷ [];
     }
 
@@ -335,8 +335,8 @@ caller_removed =
       file = file_of (leading ++ (Remove 2 ∷ Remove 0 ∷ Reply ∷ Create 2 Client ∷ Give 2 2 15 9 ∷ []));
       prints =
           lines
-          (leading_prints ++ ("13 ok 0 1 3 0" with-links "2" ∷ "14 ok 0 1 3 0" with-links "2" ∷ "15 ok 0 1 3 1" with-links "2"
-          ∷ "16 ok 0 1 3 1" with-links "0" ∷ "17 ok 0 1 3 1" with-links "0" ∷ []));
+          (leading_prints ++ ("13 ok 0 1 3 0" with_links "2" ∷ "14 ok 0 1 3 0" with_links "2" ∷ "15 ok 0 1 3 1" with_links "2"
+          ∷ "16 ok 0 1 3 1" with_links "0" ∷ "17 ok 0 1 3 1" with_links "0" ∷ []));
       places = at 2 Queue ∷ at 3 Queue ∷ [];
     }
 
@@ -348,8 +348,8 @@ loop_removed =
       file = file_of (seven ++ (Remove 2 ∷ Block ∷ Create 2 Server ∷ Give 2 2 5 9 ∷ Remove 2 ∷ Remove 1 ∷ []));
       prints =
           lines
-          (seven_prints ++ ("8 ok 0 1 0 1" with-links "4" ∷ "9 ok 0 - - 0" with-links "1" ∷ "10 ok 0 - - 0" with-links "0"
-          ∷ "11 ok 0 - - 0" with-links "0" ∷ "12 ok 0 - - 0" with-links "0" ∷ "13 ok 0 0 0 0" with-links "0" ∷ []));
+          (seven_prints ++ ("8 ok 0 1 0 1" with_links "4" ∷ "9 ok 0 - - 0" with_links "1" ∷ "10 ok 0 - - 0" with_links "0"
+          ∷ "11 ok 0 - - 0" with_links "0" ∷ "12 ok 0 - - 0" with_links "0" ∷ "13 ok 0 0 0 0" with_links "0" ∷ []));
       places = at 0 Queue ∷ [];
     }
 
@@ -364,11 +364,11 @@ ranked_in_turn =
           ∷ Rank 0 255 ∷ Block ∷ Rank 1 0 ∷ Refill 0 ∷ Wake 1 ∷ Rank 0 0 ∷ []);
       prints =
           lines
-          ("1 ok 0 - - 0" with-links "0" ∷ "2 ok 0 - - 0" with-links "0" ∷ "3 ok 0 0 0 0" with-links "0" ∷ "4 ok 0 0 0 0" with-links "0"
-          ∷ "5 ok 0 1 1 0" with-links "0" ∷ "6 no 2 1 1 0" with-links "0" ∷ "7 no 4 1 1 0" with-links "0"
-          ∷ "8 ok 0 0 0 0" with-links "0" ∷ "9 ok 0 1 1 0" with-links "0" ∷ "10 ok 0 1 1 0" with-links "0"
-          ∷ "11 ok 0 - - 0" with-links "0" ∷ "12 ok 0 - - 0" with-links "0" ∷ "13 ok 0 0 0 0" with-links "0"
-          ∷ "14 ok 0 0 0 0" with-links "0" ∷ "15 ok 0 1 1 0" with-links "0" ∷ []);
+          ("1 ok 0 - - 0" with_links "0" ∷ "2 ok 0 - - 0" with_links "0" ∷ "3 ok 0 0 0 0" with_links "0" ∷ "4 ok 0 0 0 0" with_links "0"
+          ∷ "5 ok 0 1 1 0" with_links "0" ∷ "6 no 2 1 1 0" with_links "0" ∷ "7 no 4 1 1 0" with_links "0"
+          ∷ "8 ok 0 0 0 0" with_links "0" ∷ "9 ok 0 1 1 0" with_links "0" ∷ "10 ok 0 1 1 0" with_links "0"
+          ∷ "11 ok 0 - - 0" with_links "0" ∷ "12 ok 0 - - 0" with_links "0" ∷ "13 ok 0 0 0 0" with_links "0"
+          ∷ "14 ok 0 0 0 0" with_links "0" ∷ "15 ok 0 1 1 0" with_links "0" ∷ []);
       places = at 0 Queue ∷ at 1 Queue ∷ [];
     }
 
@@ -377,7 +377,7 @@ unfoldable pub leader_ranked : Row
 leader_ranked =
     record {
       file = file_of (leading ++ (Rank 2 5 ∷ []));
-      prints = lines (leading_prints ++ ("13 ok 0 1 3 0" with-links "1" ∷ []));
+      prints = lines (leading_prints ++ ("13 ok 0 1 3 0" with_links "1" ∷ []));
       places = at 0 (Behind 3) ∷ at 2 Queue ∷ at 3 Queue ∷ [];
     }
 
@@ -386,7 +386,7 @@ unfoldable pub follower_ranked : Row
 follower_ranked =
     record {
       file = file_of (leading ++ (Rank 0 30 ∷ Rank 3 15 ∷ []));
-      prints = lines (leading_prints ++ ("13 ok 0 1 0 1" with-links "1" ∷ "14 ok 0 1 0 1" with-links "1" ∷ []));
+      prints = lines (leading_prints ++ ("13 ok 0 1 0 1" with_links "1" ∷ "14 ok 0 1 0 1" with_links "1" ∷ []));
       places = at 0 Queue ∷ at 2 Queue ∷ at 3 Queue ∷ [];
     }
 
@@ -395,7 +395,7 @@ unfoldable pub stalled_ranked : Row
 stalled_ranked =
     record {
       file = file_of (seven ++ (Rank 0 200 ∷ []));
-      prints = lines (seven_prints ++ ("8 ok 0 - - 0" with-links "0" ∷ []));
+      prints = lines (seven_prints ++ ("8 ok 0 - - 0" with_links "0" ∷ []));
       places = at 0 Stalled ∷ [];
     }
 
