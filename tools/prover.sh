@@ -30,7 +30,7 @@ in_group() { # COMMAND..
     return "$ended"
 }
 
-# Two provers in one target/ would spoil each other's files. The lock is on the folder itself, for `rt ci` removes target/.
+# Two provers in one checkout would wait for each other at every crate. The lock is on the folder itself.
 lock() { # FOLDER
     exec 9<"$1"
     if command -v flock >/dev/null && ! flock -n 9; then
@@ -39,3 +39,43 @@ lock() { # FOLDER
     fi
 }
 unlock() { exec 9<&-; }
+
+# The crates that the programs are made of.
+crates() { # PROGRAM..
+    awk -F: -v programs="$*" '
+        function visit(name,    parts, k, n) {
+            if (!(name in needs) || seen[name]++) return
+            n = split(needs[name], parts, " ")
+            for (k = 1; k <= n; k++) visit(parts[k])
+            print name
+        }
+        { sub(/#.*/, "") }
+        NF == 2 { gsub(/[ \t]/, "", $1); needs[$1] = $2 }
+        END { n = split(programs, names, " "); for (k = 1; k <= n; k++) visit(names[k]) }' "$root/crates.txt"
+}
+
+# One sum of all that a program is made of: the kit, and each file that a proof of its crates reads.
+made_of() { # PROGRAM
+    local crate
+    {
+        rt version
+        for crate in $(crates "$1"); do
+            echo "$crate"
+            find "$root/crates/$crate" -path '*/out' -prune -o -type f \( -name '*.rt' -o -name '*.antt' \) -print0 | sort -z | xargs -0r cat
+        done
+    } | sha256sum
+}
+
+# Takes a program that rt built: it stands in target/bin then, beside the sums of it and of what it is made of.
+take() { # PROGRAM
+    mkdir -p "$root/target/bin" "$root/target/stamp"
+    cp "$root/crates/$1/out/$1" "$root/target/bin/$1" || return 1
+    sha256sum <"$root/target/bin/$1" >"$root/target/$1.sum"
+    made_of "$1" >"$root/target/stamp/$1"
+}
+
+# Proves and builds a program where what it is made of has changed. rt builds it to run it, here on nothing.
+build() { # PROGRAM
+    [ "$(made_of "$1")" != "$(cat "$root/target/stamp/$1" 2>/dev/null)" ] || return 0
+    (cd "$root/crates/$1" && rt run) </dev/null && take "$1"
+}
