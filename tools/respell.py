@@ -73,7 +73,7 @@ def files(root):
                 yield path, lambda t, p=path: source(p, t)
             elif inside[0] == "crates" and name.endswith(".edit"):
                 yield path, lambda t: "\n".join(l if l.startswith("file:") else turned(l, lambda w: not no_rust_name(w)) for l in t.split("\n"))
-            elif name.endswith(".md") and inside[0] in ("README.md", "docs", "tests"):
+            elif name.endswith(".md") and inside[0] in ("README.md", "docs"):
                 yield path, page
 
 
