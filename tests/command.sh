@@ -49,21 +49,6 @@ if [ -f "$work/slow" ]; then (exec sleep 1000) & echo \$! >"$work/prover"; wait;
 mkdir -p out
 cp "$work/built/\$name" out
 END
-#!/bin/sh
-mkdir -p target/bin target/log target/stamp
-if [ "\$1" = ci ]; then cp "$work/built"/* target/bin; cp "$work/built"/* target/stamp; cat "$work/ci"; exit "\$(cat "$work/ci.status")"; fi
-[ ! -f "$work/refuse" ] || { echo "rt: key NOT PROVED"; exit 1; }
-shift
-for name; do
-    [ ! -f "target/stamp/\$name" ] || continue
-    echo failed >"target/log/\$name.res"
-    : >"target/log/\$name.say"
-    if [ -f "$work/slow" ]; then (exec sleep 1000) & echo \$! >"$work/prover"; wait; fi
-    cp "$work/built/\$name" target/bin
-    echo built >"target/log/\$name.res"
-    echo stamp >"target/stamp/\$name"
-done
-END
 chmod +x "$work/bin/rt"
 export PATH="$work/bin:$PATH"
 cd "$outside"
