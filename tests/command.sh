@@ -29,7 +29,10 @@ originals() {
     cp "$(dirname "$program")"/{list_to_file,plain_key,reason,file_to_list,shares,shorten,ranking,card,orders} "$work/built"
 }
 originals
-for name in key list_to_file plain_key reason file_to_list shares shorten ranking card orders; do mkdir -p "$repository/crates/$name/src"; done
+for name in $(sed -n 's/^\([a-z_]*\):.*/\1/p' "$here/../crates.txt"); do
+    mkdir -p "$repository/crates/$name/src"
+    echo "// $name" >"$repository/crates/$name/src/lib.rt"
+done
 cat >"$work/bin/rt" <<END
 #!/bin/sh
 if [ "\$1" = version ]; then echo "a kit"; exit; fi
@@ -112,8 +115,12 @@ run "a cut-off program" 0 key "a file"; prints "$work/k1.key"; says "building it
 rm "$repository/target/bin/key"
 run "a missing program" 0 key "a file"; prints "$work/k1.key"
 : >"$work/refuse"
+run "what it is made of is unchanged" 0 key "a file"; prints "$work/k1.key"; says_nothing
+echo "// a change" >>"$repository/crates/rules/src/lib.rt"
 run "not proved" 1 key "a file"; prints /dev/null; says "NOT PROVED"
 rm "$work/refuse"
+run "proved, what it is made of has changed" 0 key "a file"; prints "$work/k1.key"
+run "and is unchanged again" 0 key "a file"; prints "$work/k1.key"; says_nothing
 
 # Both engines.
 run "both engines, an event file, first use of the second" 0 key --both "a file"; prints "$work/k1.key"

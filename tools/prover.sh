@@ -54,28 +54,29 @@ crates() { # PROGRAM..
         END { n = split(programs, names, " "); for (k = 1; k <= n; k++) visit(names[k]) }' "$root/crates.txt"
 }
 
-# One sum of all that a program is made of: the kit, and each file that a proof of its crates reads.
+# One sum of all that a program is made of: the kit, by its program rt, and each file that a proof of its crates reads.
 made_of() { # PROGRAM
-    local crate
+    local folders
+    mapfile -t folders < <(crates "$1" | sed "s#^#$root/crates/#")
     {
-        rt version
-        for crate in $(crates "$1"); do
-            echo "$crate"
-            find "$root/crates/$crate" -path '*/out' -prune -o -type f \( -name '*.rt' -o -name '*.antt' \) -print0 | sort -z | xargs -0r cat
-        done
+        stat -L -c '%s %y' "$(command -v rt)"
+        find "${folders[@]}" -name out -prune -o -type f \( -name '*.rt' -o -name '*.antt' \) -print0 | sort -z | xargs -0 sha256sum
     } | sha256sum
 }
 
 # Takes a program that rt built: it stands in target/bin then, beside the sums of it and of what it is made of.
-take() { # PROGRAM
+take() { # PROGRAM [SUM]
     mkdir -p "$root/target/bin" "$root/target/stamp"
     cp "$root/crates/$1/out/$1" "$root/target/bin/$1" || return 1
     sha256sum <"$root/target/bin/$1" >"$root/target/$1.sum"
-    made_of "$1" >"$root/target/stamp/$1"
+    echo "${2-$(made_of "$1")}" >"$root/target/stamp/$1"
 }
 
-# Proves and builds a program where what it is made of has changed. rt builds it to run it, here on nothing.
+# Proves and builds a program where what it is made of has changed, and says so. rt builds it to run it, here on nothing.
 build() { # PROGRAM
-    [ "$(made_of "$1")" != "$(cat "$root/target/stamp/$1" 2>/dev/null)" ] || return 0
-    (cd "$root/crates/$1" && rt run) </dev/null && take "$1"
+    local sum
+    sum=$(made_of "$1")
+    [ "$sum" != "$(cat "$root/target/stamp/$1" 2>/dev/null)" ] || return 0
+    echo "proving $1"
+    (cd "$root/crates/$1" && rt run) </dev/null && take "$1" "$sum"
 }
