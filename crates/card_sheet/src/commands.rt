@@ -9,7 +9,7 @@ use dispatcher::Machine;
 use replay::run_events;
 
 // The machine, where the next event begins, and what the two lines say.
-#[derive(Drop)]
+#[derive(Clone, Copy)]
 pub(crate) struct Obeyed {
     pub machine: Machine,
     pub offset: usize,

@@ -15,7 +15,7 @@ use reading::{copy_block, file_at, input_refusal};
 use text::put_file_line;
 
 // "commands of 3 bytes, op a b"
-#[derive(Drop)]
+#[derive(Clone, Copy)]
 pub struct Command {
     pub op: u8,
     pub a: u8,

@@ -6,7 +6,7 @@ ghost use Rattle.event_file.specs.Answers.{shown_found, refusal_of};
 
 use crate::reader::{Found, Stepped, open, step};
 
-#[derive(Drop)]
+#[derive(Clone, Copy)]
 pub struct Reader<'a> {
     pub file: &'a [u8],
     pub offset: usize,

@@ -11,14 +11,14 @@ mod header;
 mod operands;
 
 // What stands at an offset: an event, the file's end, or no good record. Document 01 has a refusal number for each: `refusal_of`.
-#[derive(Drop)]
+#[derive(Clone, Copy)]
 pub enum Found {
     Record(Event),
     End,
     Bad,
 }
 
-#[derive(Drop)]
+#[derive(Clone, Copy)]
 pub struct Stepped {
     pub found: Found,
     pub offset: usize,

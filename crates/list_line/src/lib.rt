@@ -9,7 +9,7 @@ pub use kinds::line_of;
 use rules::Event;
 
 // What a line holds: nothing, an event, or a fault by its number.
-#[derive(Drop)]
+#[derive(Clone, Copy)]
 pub enum Line {
     Empty,
     One(Event),

@@ -7,7 +7,7 @@ use crate::words::{number, same};
 use rules::Role;
 
 // A number that was taken, its fault or 0, and the place after it.
-#[derive(Drop)]
+#[derive(Clone, Copy)]
 pub struct Number {
     pub fault: u8,
     pub value: u16,
@@ -15,13 +15,13 @@ pub struct Number {
 }
 
 // A number that was taken as the last operand, and the line's fault from there on or 0.
-#[derive(Drop)]
+#[derive(Clone, Copy)]
 pub struct Last {
     pub fault: u8,
     pub value: u16,
 }
 
-#[derive(Drop)]
+#[derive(Clone, Copy)]
 pub struct Taken {
     pub fault: u8,
     pub role: Role,

@@ -12,7 +12,7 @@ use list_line::scan::{Until, scan};
 use list_line::{Line, line_of};
 use text::put_head;
 
-#[derive(Drop)]
+#[derive(Clone, Copy)]
 pub struct LineCount {
     pub wrong: bool,
     pub fault: u8,

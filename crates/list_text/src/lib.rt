@@ -11,7 +11,7 @@ mod records;
 mod sentence;
 
 // What becomes of a list: how many bytes its file has, or the line that is wrong, from 1, and its fault. A line 0 is none.
-#[derive(Drop)]
+#[derive(Clone, Copy)]
 pub struct Filed {
     pub bytes: usize,
     pub line: usize,

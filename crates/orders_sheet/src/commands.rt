@@ -9,7 +9,7 @@ use dispatcher::Machine;
 use replay::run_events;
 
 // The machine, the store, where the next event begins, and what the line says: its last column is a take's count, or the links of a run.
-#[derive(Drop)]
+#[derive(Clone, Copy)]
 pub(crate) struct Obeyed {
     pub machine: Machine,
     pub store: Store,

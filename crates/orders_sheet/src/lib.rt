@@ -16,7 +16,7 @@ use replay::refusal_behind;
 use text::put_file_line;
 
 // "commands of 6 bytes: op, thread, order number"
-#[derive(Drop)]
+#[derive(Clone, Copy)]
 pub struct Command {
     pub op: u8,
     pub thread: u8,

@@ -7,7 +7,7 @@ use dispatcher::Machine;
 use event_file::{Found, step};
 
 // Whether the file has such an event, and the machine after it.
-#[derive(Drop)]
+#[derive(Clone, Copy)]
 pub struct Reached {
     pub found: bool,
     pub machine: Machine,

@@ -9,7 +9,7 @@ use event_file::{Found, step};
 use rules::{Event, Running, Timeslice};
 
 // The units of each number, and their sum.
-#[derive(Drop)]
+#[derive(Clone, Copy)]
 pub struct Tally {
     pub units: [u64; Timeslice::LIMIT],
     pub total: u64,

@@ -9,7 +9,7 @@ use dispatcher::Machine;
 use event_file::{Found, step};
 
 // Whether there is such an event, and where the record of the first begins and ends.
-#[derive(Drop)]
+#[derive(Clone, Copy)]
 pub struct Asked {
     pub found: bool,
     pub at: usize,

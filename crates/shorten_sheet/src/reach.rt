@@ -9,7 +9,7 @@ use dispatcher::Machine;
 use event_file::{Found, step};
 
 // The machine, and where the event's record begins.
-#[derive(Drop)]
+#[derive(Clone, Copy)]
 pub struct Reached {
     pub machine: Machine,
     pub at: usize,

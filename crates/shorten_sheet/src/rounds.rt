@@ -10,7 +10,7 @@ use crate::parts::try_part;
 use dispatcher::Machine;
 
 // Between which places the records are that are left.
-#[derive(Drop)]
+#[derive(Clone, Copy)]
 pub struct Rest {
     pub from: usize,
     pub to: usize,

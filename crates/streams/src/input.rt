@@ -4,7 +4,7 @@ ghost use Rattle.streams.specs.Counts.{Filled};
 use std::io::{Read, Stdin};
 
 // Whether reading failed, and how many bytes were read.
-#[derive(Drop)]
+#[derive(Clone, Copy)]
 pub struct Input {
     pub failed: bool,
     pub bytes: usize,

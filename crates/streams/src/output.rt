@@ -4,7 +4,7 @@ ghost use Rattle.streams.specs.Counts.{Sent};
 use std::io::{Stderr, Stdout, Write};
 
 // Whether writing failed, and how many bytes were written.
-#[derive(Drop)]
+#[derive(Clone, Copy)]
 pub struct Output {
     pub failed: bool,
     pub bytes: usize,

@@ -61,7 +61,7 @@ pub fn without_places(machine: Machine) -> PlainMachine
 }
 
 // How many bytes the key of a file has, and how many the plain machine's.
-#[derive(Drop)]
+#[derive(Clone, Copy)]
 pub struct Written {
     pub key: usize,
     pub plain: usize,
