@@ -13,9 +13,8 @@ use Rattle.rules.specs.Refusals.{◌gives◌else◌}
 use Rattle.rules.proofs.Basics.Accepting.{passes}
 use Rattle.abort_orders.specs.declared.Order.{Order}
 use Rattle.abort_orders.specs.declared.Order.TheVariants.{Nothing, Abort, Withdraw}
-use Rattle.abort_orders.specs.declared.Slot.{Slot}
 use Rattle.abort_orders.specs.declared.Store.{Store}
-use Rattle.abort_orders.specs.Orders.{free_slot, order_at, empty_store, not_above, order_refusal, given_after}
+use Rattle.abort_orders.specs.Orders.{order_at, empty_store, not_above, order_refusal, given_after}
 use Rattle.abort_orders.specs.Meaning.{Holds, an_abort, a_withdraw, Supersedes, Comes}
 
 module _ (store : Store) (n number : ℕ) where
@@ -55,15 +54,14 @@ module _ (store : Store) (n number : ℕ) where
   unfolding order_refusal
   is_thread e = ltb-false 127 n (passes (ltb 127 n) 1 (not_above number (order_at store n) gives 27 else 0) e).0
 
-  module _ (order : Order) (full : length store.slots ≡ limit) where
+  module _ (order : Order) (full : length store.orders ≡ limit) where
     pub supersedes : order_refusal store n number ≡ 0
         → Supersedes store (given_after (order_refusal store n number) store n order).store n order
     supersedes e =
         let small = is_thread e in
-        let slot : Slot = record { order = order } in
         rw e record {
-          now = ap (λ (s : Slot). s.order) (get_or-set_same store.slots n slot free_slot (omega arith));
-          others = λ other apart. ap (λ (s : Slot). s.order) (get_or-set_other store.slots n other slot free_slot apart);
+          now = get_or-set_same store.orders n order Nothing (omega arith);
+          others = λ other apart. get_or-set_other store.orders n other order Nothing apart;
         }
 
     pub comes : Comes store n number order (given_after (order_refusal store n number) store n order)
@@ -80,6 +78,6 @@ module _ (store : Store) (n number : ℕ) where
 pub none_held : (n number : ℕ) (order : Order) → n ≤ 127
     → (given_after (order_refusal empty_store n number) empty_store n order).refusal ≡ 0
 none_held n number order small =
-    let free = ap (λ (s : Slot). s.order) (get_or-replicate limit n free_slot free_slot (omega arith)) in
+    let free = get_or-replicate limit n Nothing Nothing (omega arith) in
     given_number empty_store n number (order_refusal empty_store n number) order
     ∙ not_refused empty_store n number small (ap (not_above number) free)

@@ -5,11 +5,12 @@ use mathlib.Core.Path.{◌≡◌, refl, sym, ap, ◌∙◌}
 use mathlib.Core.List.{List, map}
 use mathlib.Core.Bool.{Bool, true, false}
 use Rattle.rules.specs.declared.Event.{Event}
+use Rattle.rules.specs.RefusalNumbers.{number_in}
 use Rattle.rules.specs.Sound.{sound}
 use Rattle.rules.specs.Events as events
 use Rattle.rules.proofs.Basics.Views.{Two, yes_true, no_false, and_true_both}
 use Rattle.dispatcher.specs.declared.Machine.{Machine}
-use Rattle.dispatcher.specs.declared.Answered.{Answered}
+use Rattle.dispatcher.specs.Promise.{Answered}
 use Rattle.dispatcher.specs.Shown.{shown, stored, sound_machine}
 use Rattle.dispatcher.proofs.Stored.{sound_stored, sound_shown}
 use Rattle.dispatcher.proofs.OneForm.{one_form}
@@ -18,22 +19,22 @@ use Rattle.abort_orders.specs.declared.Store.{Store}
 use Rattle.abort_orders.specs.declared.Taken.{Taken}
 use Rattle.abort_orders.specs.Orders as orders
 use Rattle.abort_orders.specs.Orders.{empty_store, held_aborts, applied, take_if}
-use Rattle.abort_orders.specs.Promises.{taken_of, Takes}
+use Rattle.abort_orders.specs.Promises.{count_of, taken_of, Takes}
 use Rattle.abort_orders.specs.Meaning.{abort_events, counted}
 use Rattle.abort_orders.proofs.Aborting.{aborts_ranged, as_events, applied_sound}
 
 -- on a sound machine
 pub record TakesAll (given : Store) (m : Machine) (r : Taken) : Type 0 where
-  pub refusal : r.refusal ≡ 0
-  pub count : r.count ≡ (applied (held_aborts given) (shown m)).count
+  pub refusal : number_in r.answer ≡ 0
+  pub count : count_of r ≡ (applied (held_aborts given) (shown m)).count
   pub store : r.store ≡ empty_store
   pub state : shown r.machine ≡ (applied (held_aborts given) (shown m)).state
   pub sound : sound_machine r.machine ≡ true
 
 -- on an unsound one
 pub record TakesNone (given : Store) (m : Machine) (r : Taken) : Type 0 where
-  pub refusal : r.refusal ≡ 1
-  pub count : r.count ≡ 0
+  pub refusal : number_in r.answer ≡ 1
+  pub count : count_of r ≡ 0
   pub store : r.store ≡ given
   pub machine : r.machine ≡ m
 
@@ -60,7 +61,7 @@ module _ (store : Store) (m : Machine) (r : Taken) (t : Takes store m r) where
   unfolding take_if
   takes_none h =
       let is = taken_by false h in
-      let one : r.refusal ≡ 1 = t.refusal ∙ ap (λ (x : orders.Taken). x.refusal) is in
+      let one : number_in r.answer ≡ 1 = t.refusal ∙ ap (λ (x : orders.Taken). x.refusal) is in
       record {
         refusal = one;
         count = t.count ∙ ap (λ (x : orders.Taken). x.count) is;
@@ -90,7 +91,7 @@ module _ (store : Store) (m : Machine) (r : Taken) (rs : List Answered) (t : Tak
       (taken.state ∙ (as_events (held_aborts store) (shown m) (sound_shown m h)).state ∙ sym list.state)
   same_machine (no_false h) = (takes_none store m r t h).machine ∙ sym (all_kept x h)
 
-  pub same_count : Two (sound_machine m) → r.count ≡ counted (map (λ (a : Answered). a.refusal) rs)
+  pub same_count : Two (sound_machine m) → count_of r ≡ counted (map (λ (a : Answered). a.refusal) rs)
   same_count (yes_true h) =
       (takes_all store m r t h).count
       ∙ (as_events (held_aborts store) (shown m) (sound_shown m h)).count

@@ -14,10 +14,9 @@ use Rattle.dispatcher.specs.Shown.{shown, sound_machine}
 use Rattle.dispatcher.proofs.Stored.{sound_shown}
 use Rattle.dispatcher.proofs.Runs.{as_offered, answered_sound}
 use Rattle.abort_orders.specs.declared.Store.{Store}
-use Rattle.abort_orders.specs.declared.Given.{Given}
 use Rattle.abort_orders.specs.declared.Taken.{Taken}
-use Rattle.abort_orders.specs.Orders.{held_aborts}
-use Rattle.abort_orders.specs.Promises.{Takes}
+use Rattle.abort_orders.specs.Orders.{Given, held_aborts}
+use Rattle.abort_orders.specs.Promises.{count_of, Takes}
 use Rattle.abort_orders.specs.Meaning.{plain_taken, Step, RangedSteps, Outcome, Works, stops, happens, orders_abort, orders_withdraw}
 use Rattle.abort_orders.specs.Meaning.{takes_orders, PlainOutcome, plain_given, SameStep, AllSameSteps}
 use Rattle.abort_orders.proofs.Aborting.{as_plain}
@@ -28,7 +27,7 @@ module _ (store : Store) (m : Machine) (r : Taken) (h : sound_machine m ≡ true
   pub taken_plain : forget (shown r.machine) ≡ (plain_taken (held_aborts store) (forget (shown m))).plain
   taken_plain = ap forget (takes_all store m r t h).state ∙ (as_plain (held_aborts store) (shown m) (sound_shown m h)).plain
 
-  pub taken_count : r.count ≡ (plain_taken (held_aborts store) (forget (shown m))).count
+  pub taken_count : count_of r ≡ (plain_taken (held_aborts store) (forget (shown m))).count
   taken_count = (takes_all store m r t h).count ∙ (as_plain (held_aborts store) (shown m) (sound_shown m h)).count
 
 -- what a step's outcome shares with the plain machine's, if its machine shows that one

@@ -8,14 +8,13 @@ use Rattle.rules.specs.Events as events
 use Rattle.rules.specs.Lists.{AllRanged, after}
 use Rattle.rules.proofs.Shortening.Refusing.{after_append}
 use Rattle.dispatcher.specs.declared.Machine.{Machine}
-use Rattle.dispatcher.specs.declared.Answered.{Answered}
+use Rattle.dispatcher.specs.Promise.{Answered}
 use Rattle.dispatcher.specs.Shown.{shown, sound_machine}
 use Rattle.dispatcher.proofs.Stored.{sound_stored, sound_shown}
 use Rattle.dispatcher.proofs.OneForm.{one_form}
 use Rattle.dispatcher.proofs.Runs.{as_offered, answered_sound, Runs, last_of, ran}
 use Rattle.abort_orders.specs.declared.Store.{Store}
-use Rattle.abort_orders.specs.declared.Given.{Given}
-use Rattle.abort_orders.specs.Orders.{empty_store, give_abort, give_withdraw, held_aborts}
+use Rattle.abort_orders.specs.Orders.{empty_store, Given, give_abort, give_withdraw, held_aborts}
 use Rattle.abort_orders.specs.Meaning.{abort_events, Step, Happens, OrdersAbort, OrdersWithdraw, TakesOrders, RangedSteps, Outcome}
 use Rattle.abort_orders.specs.Meaning.{Works, stops, happens, orders_abort, orders_withdraw, takes_orders, last_left, written_out}
 use Rattle.abort_orders.proofs.Aborting.{aborts_ranged, as_events}

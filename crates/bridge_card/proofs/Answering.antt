@@ -1,68 +1,54 @@
--- What an operation answers, by the number that its refusal tests gave and by what it then does.
-use Prim.Native.Nat.{ℕ, zero, suc}
-use mathlib.Core.Path.{◌≡◌, refl, sym, ap, ◌∙◌}
+-- What an operation answers, by what the check of its block and its argument found.
+use Prim.Native.Nat.{ℕ}
+use native.Mathlib.Omega.{arith}
+use mathlib.Core.Path.{◌≡◌, ap, ◌∙◌}
 use mathlib.Core.List.{List}
-use lib.ListN.{get_or, set}
-use borrow.Author.Tests.{eq-eqb, ne_eqb}
-use Rattle.bridge_card.specs.Card.{read_refusal, write_refusal, raise_refusal, read_after, read, changed_after, written, write}
-use Rattle.bridge_card.specs.Card.{raised, raise}
+use mathlib.Core.Bool.{cond}
+use lib.Dec.{ltb, eqb}
+use lib.ListN.{get_or}
+use Rattle.rules.specs.declared.refusal.Refusal.{Refusal}
+use Rattle.rules.specs.RefusalNumbers.{number_of}
+use Rattle.bridge_card.specs.Card.{refusal_of, not_written, read_refusal, write_refusal, raise_refusal, read_after, read, changed_after}
+use Rattle.bridge_card.specs.Card.{written, write, raised, raise}
 
--- the outcome for one number, where the tests gave another name of it
-refused_read : (n : ℕ) (b : List ℕ) (register : ℕ) → (n ≡ 0 → ⊥) → record { refusal = n; byte = 0 } ≡ read_after n b register
-refused_read zero b register given = absurd (given refl)
-refused_read (suc n) b register given = refl
+-- a refusal's number is not 0, that of what is accepted
+no_byte : (x : Refusal) (b : List ℕ) (register : ℕ) → record { refusal = number_of x; byte = 0 } ≡ read_after (number_of x) b register
+no_byte x b register = grind arith
 
-refused_change : (n : ℕ) (changed b : List ℕ) → (n ≡ 0 → ⊥) → record { refusal = n; block = b } ≡ changed_after n changed b
-refused_change zero changed b given = absurd (given refl)
-refused_change (suc n) changed b given = refl
+no_change : (x : Refusal) (changed b : List ℕ) → record { refusal = number_of x; block = b } ≡ changed_after (number_of x) changed b
+no_change x changed b = grind arith
 
-accepted_change : (n : ℕ) (changed b : List ℕ) → n ≡ 0 → record { refusal = n; block = changed } ≡ changed_after n changed b
-accepted_change n changed b e = rw e refl
+changes : {k : ℕ} (found changed b : List ℕ) → found ≡ changed → 0 ≡ k → record { refusal = 0; block = found } ≡ changed_after k changed b
+changes found changed b is e = ap (λ (l : List ℕ). record { refusal = 0; block = l }) is ∙ ap (λ (k : ℕ). changed_after k changed b) e
 
-module _ (b : List ℕ) (register n : ℕ) (tested : n ≡ read_refusal b register) where
-  pub read_refused : (n ≡ 0 → ⊥) → record { refusal = n; byte = 0 } ≡ read b register
-  unfolding read
-  read_refused given = refused_read n b register given ∙ ap (λ (k : ℕ). read_after k b register) tested
+module _ (b : List ℕ) (register : ℕ) where
+  pub read_refused : (x : Refusal) → number_of x ≡ refusal_of b (ltb 11 register)
+      → record { refusal = number_of x; byte = 0 } ≡ read b register
+  unfolding read read_refusal
+  read_refused x e = no_byte x b register ∙ ap (λ (k : ℕ). read_after k b register) e
 
-  -- "byte 3 reads 0"
-  pub read_byte_3 : n ≡ 0 → register ≡ 3 → record { refusal = n; byte = 0 } ≡ read b register
-  unfolding read
-  read_byte_3 e three = rw (← tested, e, eq-eqb register 3 three) refl
+  pub read_done : 0 ≡ refusal_of b (ltb 11 register) → (byte : ℕ) → byte ≡ cond (eqb register 3) 0 (get_or b register 0)
+      → record { refusal = 0; byte = byte } ≡ read b register
+  unfolding read read_refusal
+  read_done e byte is = ap (λ (n : ℕ). record { refusal = 0; byte = n }) is ∙ ap (λ (k : ℕ). read_after k b register) e
 
-  pub read_stored : n ≡ 0 → (register ≡ 3 → ⊥) → record { refusal = n; byte = get_or b register 0 } ≡ read b register
-  unfolding read
-  read_stored e other = rw (← tested, e, ne_eqb register 3 other) refl
+module _ (b : List ℕ) (register byte : ℕ) where
+  pub write_refused : (x : Refusal) → number_of x ≡ refusal_of b (not_written register)
+      → record { refusal = number_of x; block = b } ≡ write b register byte
+  unfolding write write_refusal
+  write_refused x e = no_change x (written b register byte) b ∙ ap (λ (k : ℕ). changed_after k (written b register byte) b) e
 
-module _ (b : List ℕ) (register byte n : ℕ) (tested : n ≡ write_refusal b register) where
-  pub write_refused : (n ≡ 0 → ⊥) → record { refusal = n; block = b } ≡ write b register byte
-  unfolding write
-  write_refused given =
-      refused_change n (written b register byte) b given ∙ ap (λ (k : ℕ). changed_after k (written b register byte) b) tested
+  pub write_done : 0 ≡ refusal_of b (not_written register) → (changed : List ℕ) → changed ≡ written b register byte
+      → record { refusal = 0; block = changed } ≡ write b register byte
+  unfolding write write_refusal
+  write_done e changed is = changes changed (written b register byte) b is e
 
-  pub write_done : (changed : List ℕ) → n ≡ 0 → changed ≡ written b register byte
-      → record { refusal = n; block = changed } ≡ write b register byte
-  unfolding write
-  write_done changed e is =
-      ap (λ (l : List ℕ). record { refusal = n; block = l }) is
-      ∙ accepted_change n (written b register byte) b e
-      ∙ ap (λ (k : ℕ). changed_after k (written b register byte) b) tested
+module _ (b : List ℕ) (line : ℕ) where
+  pub raise_refused : (x : Refusal) → number_of x ≡ refusal_of b (ltb 7 line) → record { refusal = number_of x; block = b } ≡ raise b line
+  unfolding raise raise_refusal
+  raise_refused x e = no_change x (raised b line) b ∙ ap (λ (k : ℕ). changed_after k (raised b line) b) e
 
-module _ (b : List ℕ) (line n : ℕ) (tested : n ≡ raise_refusal b line) where
-  pub raise_refused : (n ≡ 0 → ⊥) → record { refusal = n; block = b } ≡ raise b line
-  unfolding raise
-  raise_refused given = refused_change n (raised b line) b given ∙ ap (λ (k : ℕ). changed_after k (raised b line) b) tested
-
-  pub raise_done : (changed : List ℕ) → n ≡ 0 → changed ≡ raised b line → record { refusal = n; block = changed } ≡ raise b line
-  unfolding raise
-  raise_done changed e is =
-      ap (λ (l : List ℕ). record { refusal = n; block = l }) is
-      ∙ accepted_change n (raised b line) b e
-      ∙ ap (λ (k : ℕ). changed_after k (raised b line) b) tested
-
--- what a register holds after a write
-pub written_pending : (b : List ℕ) (register byte stored : ℕ) → register ≡ 1 → set b 1 stored ≡ written b 1 byte
-    → set b 1 stored ≡ written b register byte
-written_pending b register byte stored one e = e ∙ ap (λ (r : ℕ). written b r byte) (sym one)
-
-pub written_other : (b : List ℕ) (register byte : ℕ) → (register ≡ 1 → ⊥) → set b register byte ≡ written b register byte
-written_other b register byte other = rw (ne_eqb register 1 other) refl
+  pub raise_done : 0 ≡ refusal_of b (ltb 7 line) → (changed : List ℕ) → changed ≡ raised b line
+      → record { refusal = 0; block = changed } ≡ raise b line
+  unfolding raise raise_refusal
+  raise_done e changed is = changes changed (raised b line) b is e

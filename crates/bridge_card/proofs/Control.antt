@@ -14,7 +14,8 @@ use Rattle.rules.specs.State.{State}
 use Rattle.rules.specs.Refusals.{◌gives◌else◌}
 use Rattle.rules.specs.Events.{offer_if}
 use Rattle.rules.proofs.Basics.Views.{Same, equal, different, same}
-use Rattle.bridge_card.specs.Bits.{bit, byte_of}
+use Rattle.bits.specs.Bits.{bit}
+use Rattle.bridge_card.specs.Card.{byte_of}
 use Rattle.bridge_card.specs.Card.{is_on, thread_of, with_pending, read_refusal, read_after, read, changed_after}
 use Rattle.bridge_card.specs.Card.{write_refusal, written, write, raise_refusal, raised, raise, lowest, line_to_take, line_cleared}
 use Rattle.bridge_card.specs.Card.{Polled, block_after, woken, poll_if}
@@ -94,31 +95,31 @@ module _ (b : List ℕ) (control : ℕ) where
       let enabled = other_byte 2 (λ e. omega arith) in
       λ j. cond (on j) (lowest (λ line. bit line (pending_byte j) && bit line (enabled j))) none
 
-  module _ (isSound : Bool) (s : State) where
+  module _ (is_sound : Bool) (s : State) where
     -- the same poll, with the other control
     abbrev with_control : Polled → Polled
     with_control p = record { block = set p.block 0 control; answer = p.answer }
 
-    both_woken : (line : ℕ) → woken other line (offer_if isSound (Wake (thread_of other line)) s)
-        ≡ with_control (woken b line (offer_if isSound (Wake (thread_of b line)) s))
+    both_woken : (line : ℕ) → woken other line (offer_if is_sound (Wake (thread_of other line)) s)
+        ≡ with_control (woken b line (offer_if is_sound (Wake (thread_of b line)) s))
     both_woken line =
-        let answer = ap (λ (n : ℕ). offer_if isSound (Wake n) s) (other_byte (4 + line) (λ e. omega arith)) in
-        let block = both_cleared (offer_if isSound (Wake (thread_of b line)) s).refusal line in
-        ap (woken other line) answer ∙ (λ i. record { block = block i; answer = offer_if isSound (Wake (thread_of b line)) s })
+        let answer = ap (λ (n : ℕ). offer_if is_sound (Wake n) s) (other_byte (4 + line) (λ e. omega arith)) in
+        let block = both_cleared (offer_if is_sound (Wake (thread_of b line)) s).refusal line in
+        ap (woken other line) answer ∙ (λ i. record { block = block i; answer = offer_if is_sound (Wake (thread_of b line)) s })
 
     found_both : length b ≡ 12 → (o : Option ℕ) → line_to_take b ≡ o → line_to_take other ≡ o
-        → poll_if isSound other s ≡ with_control (poll_if isSound b s)
+        → poll_if is_sound other s ≡ with_control (poll_if is_sound b s)
     found_both twelve none e e' =
-        polled_22 isSound other s (other_long ∙ twelve) e' ∙ ap with_control (sym (polled_22 isSound b s twelve e))
+        polled_22 is_sound other s (other_long ∙ twelve) e' ∙ ap with_control (sym (polled_22 is_sound b s twelve e))
     found_both twelve (some line) e e' =
-        polled_line isSound other s line (other_long ∙ twelve) e'
+        polled_line is_sound other s line (other_long ∙ twelve) e'
         ∙ both_woken line
-        ∙ ap with_control (sym (polled_line isSound b s line twelve e))
+        ∙ ap with_control (sym (polled_line is_sound b s line twelve e))
 
-    pub polls_alike : bit 0 control ≡ is_on b → poll_if isSound other s ≡ with_control (poll_if isSound b s)
+    pub polls_alike : bit 0 control ≡ is_on b → poll_if is_sound other s ≡ with_control (poll_if is_sound b s)
     polls_alike same_bit = by (same (length b) 12)
       where
-        by : Same (length b) 12 → poll_if isSound other s ≡ with_control (poll_if isSound b s)
+        by : Same (length b) 12 → poll_if is_sound other s ≡ with_control (poll_if is_sound b s)
         by (equal twelve _) = found_both twelve (line_to_take b) refl (same_line same_bit twelve)
         by (different short _) =
-            polled_20 isSound other s (λ e. short (sym other_long ∙ e)) ∙ ap with_control (sym (polled_20 isSound b s short))
+            polled_20 is_sound other s (λ e. short (sym other_long ∙ e)) ∙ ap with_control (sym (polled_20 is_sound b s short))

@@ -8,7 +8,7 @@ use mathlib.Core.Bool.{Bool, false, ◌&&◌}
 use Rattle.rules.specs.State.{State}
 use Rattle.rules.specs.Events.{Answered}
 use Rattle.rules.proofs.Basics.Views.{Same, equal, different, same, clash, and_true_both, and_false_left}
-use Rattle.bridge_card.specs.Bits.{bit}
+use Rattle.bits.specs.Bits.{bit}
 use Rattle.bridge_card.specs.Card.{is_pending, is_enabled, may_take, line_to_take, Polled, unchanged, poll_if}
 use Rattle.bridge_card.specs.Promises.{line_number}
 use Rattle.bridge_card.specs.Meaning.{Takes, Cleared, wake_of, Comes, no_block, no_line, wake_refused, accepted}
@@ -16,37 +16,37 @@ use Rattle.bridge_card.specs.Meaning.{Drained, taken_first, drained_after, drain
 use Rattle.bridge_card.proofs.Exactly.{found_takes}
 use Rattle.bridge_card.proofs.Coming.{comes}
 
-pub data Step (isSound : Bool) (b : List ℕ) (s : State) : Type 0 where
-  is_refused : (number : ℕ) → poll_if isSound b s ≡ unchanged (suc number) b s → Step isSound b s
-  takes_line : (line : ℕ) (next : List ℕ) → Takes b line → Cleared b next line → (wake_of isSound b s line).refusal ≡ 0
-      → poll_if isSound b s ≡ record { block = next; answer = wake_of isSound b s line } → Step isSound b s
+pub data Step (is_sound : Bool) (b : List ℕ) (s : State) : Type 0 where
+  is_refused : (number : ℕ) → poll_if is_sound b s ≡ unchanged (suc number) b s → Step is_sound b s
+  takes_line : (line : ℕ) (next : List ℕ) → Takes b line → Cleared b next line → (wake_of is_sound b s line).refusal ≡ 0
+      → poll_if is_sound b s ≡ record { block = next; answer = wake_of is_sound b s line } → Step is_sound b s
 
-step_of : (isSound : Bool) (b : List ℕ) (s : State) {p : Polled} → Comes isSound b s p → poll_if isSound b s ≡ p → Step isSound b s
-step_of isSound b s (no_block other) e = is_refused 19 e
-step_of isSound b s (no_line twelve none_taken) e = is_refused 21 e
-step_of isSound b s (wake_refused {number = number} line twelve t w) e = is_refused number e
-step_of isSound b s (accepted {after = after} line twelve t w c) e = takes_line line after t c w e
+step_of : (is_sound : Bool) (b : List ℕ) (s : State) {p : Polled} → Comes is_sound b s p → poll_if is_sound b s ≡ p → Step is_sound b s
+step_of is_sound b s (no_block other) e = is_refused 19 e
+step_of is_sound b s (no_line twelve none_taken) e = is_refused 21 e
+step_of is_sound b s (wake_refused {number = number} line twelve t w) e = is_refused number e
+step_of is_sound b s (accepted {after = after} line twelve t w c) e = takes_line line after t c w e
 
-pub step : (isSound : Bool) (b : List ℕ) (s : State) → Step isSound b s
-step isSound b s = step_of isSound b s (comes isSound b s) refl
+pub step : (is_sound : Bool) (b : List ℕ) (s : State) → Step is_sound b s
+step is_sound b s = step_of is_sound b s (comes is_sound b s) refl
 
 -- what it adds to those that follow
-module _ (n : ℕ) (isSound : Bool) (b : List ℕ) (s : State) where
+module _ (n : ℕ) (is_sound : Bool) (b : List ℕ) (s : State) where
   abbrev polled : Polled → Drained
-  polled p = drained_after p.answer.refusal (line_number (line_to_take b)) (drain n isSound p.block p.answer.state) b s
+  polled p = drained_after p.answer.refusal (line_number (line_to_take b)) (drain n is_sound p.block p.answer.state) b s
 
-  pub drain_stops : (number : ℕ) → poll_if isSound b s ≡ unchanged (suc number) b s
-      → drain (suc n) isSound b s ≡ record { lines = []; block = b; state = s; refusal = suc number }
+  pub drain_stops : (number : ℕ) → poll_if is_sound b s ≡ unchanged (suc number) b s
+      → drain (suc n) is_sound b s ≡ record { lines = []; block = b; state = s; refusal = suc number }
   unfolding drain
   drain_stops number e = ap polled e
 
   pub drain_goes_on : (line : ℕ) (next : List ℕ) (a : Answered) → Takes b line → a.refusal ≡ 0
-      → poll_if isSound b s ≡ record { block = next; answer = a }
-      → drain (suc n) isSound b s ≡ taken_first line (drain n isSound next a.state)
+      → poll_if is_sound b s ≡ record { block = next; answer = a }
+      → drain (suc n) is_sound b s ≡ taken_first line (drain n is_sound next a.state)
   unfolding drain
   drain_goes_on line next a t none-given e =
       let taken = found_takes b line t in
-      ap polled e ∙ (λ i. drained_after (none-given i) (line_number (taken i)) (drain n isSound next a.state) b s)
+      ap polled e ∙ (λ i. drained_after (none-given i) (line_number (taken i)) (drain n is_sound next a.state) b s)
 
 -- no line below this one can be taken
 abbrev pub NoneBelow : List ℕ → ℕ → Type 0

@@ -13,7 +13,7 @@ use Rattle.rules.specs.Sound.{sound}
 use Rattle.rules.specs.Events.{Answered, offer}
 use Rattle.rules.specs.Lists.{run, after, numbers_of}
 use Rattle.rules.proofs.Basics.Views.{Same, equal, different, same, clash, and_false_right}
-use Rattle.bridge_card.specs.Bits.{bit}
+use Rattle.bits.specs.Bits.{bit}
 use Rattle.bridge_card.specs.Card.{is_on, is_pending, is_enabled, thread_of, unchanged, poll_if}
 use Rattle.bridge_card.specs.Meaning.{Takes, Cleared, wake_of, Drained, taken_first, drain, wakes_of, Rising, Each}
 use Rattle.bridge_card.proofs.Waking.{accepted_offered, stays_sound}
@@ -24,21 +24,21 @@ use Rattle.bridge_card.proofs.Draining.{none_below_next}
 abbrev pub Taken : List ℕ → ℕ → Type 0
 Taken b line = (line < 8) × (is_pending b line ≡ true) × (is_enabled b line ≡ true) × (is_on b ≡ true)
 
-pub record Empties (from : ℕ) (isSound : Bool) (b : List ℕ) (s : State) (d : Drained) : Type 0 where
+pub record Empties (from : ℕ) (is_sound : Bool) (b : List ℕ) (s : State) (d : Drained) : Type 0 where
   pub refused : d.refusal ≡ 0 → ⊥
   pub lowest_first : Rising from d.lines
   pub taken : Each (Taken b) d.lines
   pub cleared : (line : ℕ) → line < 8 → is_pending d.block line ≡ is_pending b line && not (member line d.lines)
   pub other_bytes : (at : ℕ) → (at ≡ 1 → ⊥) → get_or d.block at 0 ≡ get_or b at 0
-  pub last : poll_if isSound d.block d.state ≡ unchanged d.refusal d.block d.state
-  pub wakes : (isSound ≡ true → sound s ≡ true) → (numbers_of (run (wakes_of b d.lines) s) ≡ replicate (length d.lines) 0)
+  pub last : poll_if is_sound d.block d.state ≡ unchanged d.refusal d.block d.state
+  pub wakes : (is_sound ≡ true → sound s ≡ true) → (numbers_of (run (wakes_of b d.lines) s) ≡ replicate (length d.lines) 0)
       × (d.state ≡ after (wakes_of b d.lines) s)
 
 -- the first poll is refused
-pub empties_none : (from : ℕ) (isSound : Bool) (b : List ℕ) (s : State) (number : ℕ) → poll_if isSound b s ≡ unchanged (suc number) b s
-    → Empties from isSound b s (record { lines = []; block = b; state = s; refusal = suc number })
+pub empties_none : (from : ℕ) (is_sound : Bool) (b : List ℕ) (s : State) (number : ℕ) → poll_if is_sound b s ≡ unchanged (suc number) b s
+    → Empties from is_sound b s (record { lines = []; block = b; state = s; refusal = suc number })
 unfolding run after member
-empties_none from isSound b s number e =
+empties_none from is_sound b s number e =
     record {
       refused = λ z. absurd (omega arith);
       lowest_first = tt;
@@ -58,8 +58,8 @@ each_of P Q f [] e = tt
 each_of P Q f (line ∷ lines) e = (f line e.0, each_of P Q f lines e.1)
 
 -- the first poll takes a line
-module _ (from : ℕ) (isSound : Bool) (b next : List ℕ) (s : State) (line : ℕ) (t : Takes b line) (c : Cleared b next line)
-    (none-given : (wake_of isSound b s line).refusal ≡ 0) (none_below : NoneBelow b from) where
+module _ (from : ℕ) (is_sound : Bool) (b next : List ℕ) (s : State) (line : ℕ) (t : Takes b line) (c : Cleared b next line)
+    (none-given : (wake_of is_sound b s line).refusal ≡ 0) (none_below : NoneBelow b from) where
   taken_before : (l : ℕ) → Taken next l → Taken b l
   taken_before l p = (
     p.0,
@@ -93,22 +93,22 @@ module _ (from : ℕ) (isSound : Bool) (b next : List ℕ) (s : State) (line : �
       λ i. Wake (thread i) ∷ rest i
 
   abbrev wake : Answered
-  wake = wake_of isSound b s line
+  wake = wake_of is_sound b s line
 
-  first_wake : (lines : List ℕ) (state : State) → (isSound ≡ true → sound s ≡ true)
+  first_wake : (lines : List ℕ) (state : State) → (is_sound ≡ true → sound s ≡ true)
       → (numbers_of (run (wakes_of next lines) wake.state) ≡ replicate (length lines) 0)
       × (state ≡ after (wakes_of next lines) wake.state)
       → (numbers_of (run (wakes_of b (line ∷ lines)) s) ≡ replicate (length (line ∷ lines)) 0)
       × (state ≡ after (wakes_of b (line ∷ lines)) s)
   unfolding run after
   first_wake lines state if-held w =
-      let offered : wake ≡ offer (Wake (thread_of b line)) s = accepted_offered isSound (thread_of b line) s if-held none-given in
+      let offered : wake ≡ offer (Wake (thread_of b line)) s = accepted_offered is_sound (thread_of b line) s if-held none-given in
       let events = same_wakes lines in
       let number : (offer (Wake (thread_of b line)) s).refusal ≡ 0 = ap (λ (a : Answered). a.refusal) (sym offered) ∙ none-given in
       let numbers = (λ i. numbers_of (run (sym events i) (sym offered i).state)) ∙ w.0 in
       (λ i. number i ∷ numbers i, w.1 ∙ (λ i. after (events i) (offered i).state))
 
-  pub empties_line : (d : Drained) → Empties (suc line) isSound next wake.state d → Empties from isSound b s (taken_first line d)
+  pub empties_line : (d : Drained) → Empties (suc line) is_sound next wake.state d → Empties from is_sound b s (taken_first line d)
   empties_line d r =
       record {
         refused = r.refused;
@@ -118,25 +118,25 @@ module _ (from : ℕ) (isSound : Bool) (b next : List ℕ) (s : State) (line : �
         other_bytes = λ at other. r.other_bytes at other ∙ c.other_bytes at other;
         last = r.last;
         wakes = λ if-held.
-            let later = r.wakes (λ _. stays_sound isSound (thread_of b line) s if-held none-given) in
+            let later = r.wakes (λ _. stays_sound is_sound (thread_of b line) s if-held none-given) in
             first_wake d.lines d.state if-held later;
       }
 
 -- so many polls are enough from there
-pub empties : (n from : ℕ) (isSound : Bool) (b : List ℕ) (s : State) → from ≤ 8 → 9 ≤ from + n → NoneBelow b from
-    → Empties from isSound b s (drain n isSound b s)
-empties zero from isSound b s few enough none_below = absurd (omega arith)
-empties (suc n) from isSound b s few enough none_below = by (step isSound b s) (empties n)
+pub empties : (n from : ℕ) (is_sound : Bool) (b : List ℕ) (s : State) → from ≤ 8 → 9 ≤ from + n → NoneBelow b from
+    → Empties from is_sound b s (drain n is_sound b s)
+empties zero from is_sound b s few enough none_below = absurd (omega arith)
+empties (suc n) from is_sound b s few enough none_below = by (step is_sound b s) (empties n)
   where
-    by : Step isSound b s
+    by : Step is_sound b s
         → ((f : ℕ) (q : Bool) (next : List ℕ) (s' : State) → f ≤ 8 → 9 ≤ f + n → NoneBelow next f → Empties f q next s' (drain n q next s'))
-        → Empties from isSound b s (drain (suc n) isSound b s)
+        → Empties from is_sound b s (drain (suc n) is_sound b s)
     by (is_refused number e) later =
-        subst (Empties from isSound b s) (sym (drain_stops n isSound b s number e)) (empties_none from isSound b s number e)
+        subst (Empties from is_sound b s) (sym (drain_stops n is_sound b s number e)) (empties_none from is_sound b s number e)
     by (takes_line line next t c none-given e) later =
         let small = t.one_of_eight in
         let higher = not_lower b line t from none_below in
-        let wake = wake_of isSound b s line in
-        let rest = later (suc line) isSound next wake.state (omega arith) (omega arith) (none_below_next b line t next c) in
-        subst (Empties from isSound b s) (sym (drain_goes_on n isSound b s line next wake t none-given e))
-        (empties_line from isSound b next s line t c none-given none_below (drain n isSound next wake.state) rest)
+        let wake = wake_of is_sound b s line in
+        let rest = later (suc line) is_sound next wake.state (omega arith) (omega arith) (none_below_next b line t next c) in
+        subst (Empties from is_sound b s) (sym (drain_goes_on n is_sound b s line next wake t none-given e))
+        (empties_line from is_sound b next s line t c none-given none_below (drain n is_sound next wake.state) rest)

@@ -1,14 +1,14 @@
 -- The line that a poll finds is the lowest that is pending and enabled, with the card on; and such a line is found.
-use Prim.Native.Nat.{ℕ, ◌<◌}
+use Prim.Native.Nat.{ℕ}
 use native.Mathlib.Omega.{arith}
 use mathlib.Core.Path.{◌≡◌, sym, ap, ◌∙◌}
 use mathlib.Core.List.{List}
-use mathlib.Core.Bool.{Bool, true, false, cond}
+use mathlib.Core.Bool.{Bool, cond}
 use mathlib.Core.Option.{Option, none, some}
-use Rattle.rules.proofs.Basics.Views.{Two, yes_true, no_false, two, clash, and_true_left, and_true_right, and_true_both}
+use Rattle.rules.proofs.Basics.Views.{Two, yes_true, no_false, two, and_true_left, and_true_right, and_true_both}
 use Rattle.bridge_card.specs.Card.{is_on, is_pending, is_enabled, may_take, lowest, line_to_take}
 use Rattle.bridge_card.specs.Meaning.{Takes}
-use Rattle.bridge_card.proofs.Lowest.{Finds, finds, finds_line}
+use Rattle.bridge_card.proofs.Lowest.{finds, finds_line, found_lowest}
 
 pub not_found : (line : ℕ) → none ≡ some line → ⊥
 not_found line e = let z : ◌≡◌ {A = ℕ} 0 1 = cc in omega arith
@@ -31,16 +31,6 @@ takes_found b line e = by (two (is_on b))
           lowest = λ lower below. this.first lower (omega arith) below;
         }
     by (no_false off) = absurd (not_found line (sym (ap with_on off) ∙ e))
-
--- a line that passes, and none below it does, is the one found
-found_lowest : (test : ℕ → Bool) (line : ℕ) → line < 8 → test line ≡ true → ((lower : ℕ) → lower < line → test lower ≡ false)
-    → (o : Option ℕ) → Finds test 0 8 o → o ≡ some line
-found_lowest test line small here lower none f = clash (test line) here (f line (omega arith) small)
-found_lowest test line small here lower (some k) f =
-    let not_below : (k < line) → ⊥ = λ h. clash (test k) f.passes (lower k h) in
-    let not_above : (line < k) → ⊥ = λ h. clash (test line) here (f.first line (omega arith) h) in
-    let this : k ≡ line = omega arith in
-    ap some this
 
 pub found_takes : (b : List ℕ) (line : ℕ) → Takes b line → line_to_take b ≡ some line
 unfolding line_to_take

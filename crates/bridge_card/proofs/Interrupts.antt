@@ -7,11 +7,12 @@ use Prim.Native.Nat.{ℕ, zero, suc, ◌≤◌, ◌<◌}
 use native.Mathlib.Omega.{arith}
 use mathlib.Core.Path.{◌≡◌, refl, sym, ap, ◌∙◌, subst}
 use mathlib.Core.List.{List, [], ◌∷◌, ◌++◌}
-use mathlib.Core.Bool.{Bool, true, false, ◌&&◌, ◌||◌, not}
+use mathlib.Core.Bool.{Bool, true, false, ◌&&◌, ◌||◌, not, cond}
 use mathlib.Core.Option.{Option, none, some}
-use lib.Dec.{eqb}
+use lib.Dec.{eqb, ltb}
 use lib.ListN.{length, get_or, set, replicate, length-set}
 use lib.Seq.{get_or-set_same}
+use borrow.Author.Tests.{le-ltb, ne_eqb}
 use Rattle.rules.specs.declared.Event.{Event}
 use Rattle.rules.specs.declared.Event.TheVariants.{Wake}
 use Rattle.rules.specs.Tests.{member}
@@ -21,20 +22,20 @@ use Rattle.rules.specs.Events.{Answered, refused, offer_if, offer}
 use Rattle.rules.specs.Lists.{run, after, numbers_of}
 use Rattle.rules.proofs.Basics.Views.{clash}
 use Rattle.rules.proofs.Shortening.Refusing.{run_append}
-use Rattle.bridge_card.specs.Bits.{bit}
-use Rattle.bridge_card.specs.Card.{is_on, is_pending, is_enabled, thread_of, read, Changed, write, raise}
+use Rattle.bits.specs.Bits.{bit}
+use Rattle.bridge_card.specs.Card.{is_on, is_pending, is_enabled, thread_of, read, Changed, not_written, written, write, raise}
 use Rattle.bridge_card.specs.Card.{line_to_take, Polled, unchanged, block_after, woken, poll_if, poll}
 use Rattle.bridge_card.specs.Promises.{Polls}
 use Rattle.bridge_card.specs.Meaning.{Takes, Cleared, wake_of, Comes, Operation, block_after_one, is_raise, raised_all}
 use Rattle.bridge_card.specs.Meaning.{Read, Write, Raise, Poll}
 use Rattle.bridge_card.specs.Meaning.{Drained, drain, wakes_of, Rising, Each, Until}
 use Rattle.dispatcher.specs.declared.Machine.{Machine}
-use Rattle.dispatcher.specs.declared.Answered as code
+use Rattle.dispatcher.specs.Promise as code
 use Rattle.dispatcher.specs.Shown.{shown, sound_machine}
 use Rattle.dispatcher.specs.Promise.{Answers}
 use Rattle.dispatcher.proofs.Runs.{answer_to}
-use Rattle.bridge_card.proofs.Refusing.{read_none, write_none}
-use Rattle.bridge_card.proofs.Answering.{read_stored, write_done, written_other}
+use Rattle.bridge_card.proofs.Refusing.{not_refused}
+use Rattle.bridge_card.proofs.Answering.{read_done, write_done}
 use Rattle.bridge_card.proofs.Polling.{polled_line}
 use Rattle.bridge_card.proofs.Pending.{cleared}
 use Rattle.bridge_card.proofs.Exactly.{not_found, takes_found, found_takes}
@@ -67,8 +68,8 @@ line_exactly b =
     by none_takes (some line) e = absurd (none_takes line (takes_found b line e))
 
 -- what a poll comes to, for every block and every machine, sound or not
-pub poll_comes : (isSound : Bool) (b : List ℕ) (s : State) → Comes isSound b s (poll_if isSound b s)
-poll_comes isSound b s = comes isSound b s
+pub poll_comes : (is_sound : Bool) (b : List ℕ) (s : State) → Comes is_sound b s (poll_if is_sound b s)
+poll_comes is_sound b s = comes is_sound b s
 
 -- a stored machine comes back as sound as it was given
 pub poll_sound : (b after : List ℕ) (m : Machine) (r : code.Answered) → Polls b m after r → sound_machine r.machine ≡ sound_machine m
@@ -76,33 +77,34 @@ poll_sound b after m r polls = polled_sound b after m r polls
 
 -- a line whose wake is refused stays pending, and holds back those above it: however many of these are raised meanwhile, in any order, the
 -- next poll of this machine answers the same
-pub held_back : (isSound : Bool) (b : List ℕ) (s : State) (line number : ℕ) → length b ≡ 12 → Takes b line
-    → wake_of isSound b s line ≡ refused (suc number) s → (above : List ℕ) → Each (λ other. line < other) above
-    → (poll_if isSound (raised_all b above) s ≡ unchanged (suc number) (raised_all b above) s)
+pub held_back : (is_sound : Bool) (b : List ℕ) (s : State) (line number : ℕ) → length b ≡ 12 → Takes b line
+    → wake_of is_sound b s line ≡ refused (suc number) s → (above : List ℕ) → Each (λ other. line < other) above
+    → (poll_if is_sound (raised_all b above) s ≡ unchanged (suc number) (raised_all b above) s)
     × (is_pending (raised_all b above) line ≡ true)
 unfolding raised_all
-held_back isSound b s line number twelve t w [] higher =
-    (polled_line isSound b s line twelve (found_takes b line t) ∙ ap (woken b line) w, t.pending)
-held_back isSound b s line number twelve t w (other ∷ above) higher =
-    let thread = ap (λ (n : ℕ). offer_if isSound (Wake n) s) (raise_thread b other line) in
+held_back is_sound b s line number twelve t w [] higher =
+    (polled_line is_sound b s line twelve (found_takes b line t) ∙ ap (woken b line) w, t.pending)
+held_back is_sound b s line number twelve t w (other ∷ above) higher =
+    let thread = ap (λ (n : ℕ). offer_if is_sound (Wake n) s) (raise_thread b other line) in
     let still = still_takes b other line higher.0 t in
-    held_back isSound (raise b other).block s line number (raise_as_long b other ∙ twelve) still (thread ∙ w) above higher.1
+    held_back is_sound (raise b other).block s line number (raise_as_long b other ∙ twelve) still (thread ∙ w) above higher.1
 
 -- raising and then polling, where it is the line taken
-pub record RaiseThenPoll (isSound : Bool) (b : List ℕ) (line : ℕ) (s : State) : Type 0 where
+pub record RaiseThenPoll (is_sound : Bool) (b : List ℕ) (line : ℕ) (s : State) : Type 0 where
   -- the wake's answer, and the machine after it
-  pub answer : (poll_if isSound (raise b line).block s).answer ≡ offer_if isSound (Wake (thread_of b line)) s
+  pub answer : (poll_if is_sound (raise b line).block s).answer ≡ offer_if is_sound (Wake (thread_of b line)) s
   -- accepted, it leaves the block without the line's bit; refused, the line stays raised
-  pub accepted : (offer_if isSound (Wake (thread_of b line)) s).refusal ≡ 0 → Cleared b (poll_if isSound (raise b line).block s).block line
-  pub kept : ((offer_if isSound (Wake (thread_of b line)) s).refusal ≡ 0 → ⊥)
-      → (poll_if isSound (raise b line).block s).block ≡ (raise b line).block
+  pub accepted : (offer_if is_sound (Wake (thread_of b line)) s).refusal ≡ 0
+      → Cleared b (poll_if is_sound (raise b line).block s).block line
+  pub kept : ((offer_if is_sound (Wake (thread_of b line)) s).refusal ≡ 0 → ⊥)
+      → (poll_if is_sound (raise b line).block s).block ≡ (raise b line).block
 
-pub raise_then_poll : (isSound : Bool) (b : List ℕ) (line : ℕ) (s : State) → length b ≡ 12 → Takes (raise b line).block line
-    → RaiseThenPoll isSound b line s
-raise_then_poll isSound b line s twelve t =
+pub raise_then_poll : (is_sound : Bool) (b : List ℕ) (line : ℕ) (s : State) → length b ≡ 12 → Takes (raise b line).block line
+    → RaiseThenPoll is_sound b line s
+raise_then_poll is_sound b line s twelve t =
     record {
       answer = ap (λ (p : Polled). p.answer) polled;
-      accepted = λ e. raised_cleared b line (poll_if isSound raised s).block
+      accepted = λ e. raised_cleared b line (poll_if is_sound raised s).block
           (subst (λ (l : List ℕ). Cleared raised l line) (sym (block ∙ ap (λ (k : ℕ). block_after k raised line) e))
           (cleared raised line long t.one_of_eight));
       kept = λ given. block ∙ by wake.refusal given;
@@ -112,17 +114,17 @@ raise_then_poll isSound b line s twelve t =
     raised = (raise b line).block
 
     wake : Answered
-    wake = offer_if isSound (Wake (thread_of b line)) s
+    wake = offer_if is_sound (Wake (thread_of b line)) s
 
     long : length raised ≡ 12
     long = raise_as_long b line ∙ twelve
 
-    polled : poll_if isSound raised s ≡ woken raised line wake
+    polled : poll_if is_sound raised s ≡ woken raised line wake
     polled =
-        polled_line isSound raised s line long (found_takes raised line t)
-        ∙ ap (λ (n : ℕ). woken raised line (offer_if isSound (Wake n) s)) (raise_thread b line line)
+        polled_line is_sound raised s line long (found_takes raised line t)
+        ∙ ap (λ (n : ℕ). woken raised line (offer_if is_sound (Wake n) s)) (raise_thread b line line)
 
-    block : (poll_if isSound raised s).block ≡ block_after wake.refusal raised line
+    block : (poll_if is_sound raised s).block ≡ block_after wake.refusal raised line
     block = ap (λ (p : Polled). p.block) polled
 
     by : (k : ℕ) → (k ≡ 0 → ⊥) → block_after k raised line ≡ raised
@@ -153,39 +155,41 @@ pub reads_back : (b : List ℕ) (register byte : ℕ) → length b ≡ 12 → re
     → read (write b register byte).block register ≡ record { refusal = 0; byte = byte }
 reads_back b register byte twelve small other three =
     let stored = set b register byte in
-    let wrote : write b register byte ≡ record { refusal = 0; block = stored } =
-    sym (write_done b register byte 0 (sym (write_none b twelve register small three)) stored refl (written_other b register byte other)) in
-    let tested = read_none stored (length-set b register byte ∙ twelve) register small in
-    ap (λ (c : Changed). read c.block register) wrote
-    ∙ sym (read_stored stored register 0 (sym tested) refl three)
-    ∙ ap (λ (n : ℕ). record { refusal = 0; byte = n }) (get_or-set_same b register byte 0 (omega arith))
+    let none_given : ltb 11 register ≡ false = le-ltb 11 register small in
+    let may : not_written register ≡ false = rw (none_given, ne_eqb register 3 three) refl in
+    let is : stored ≡ written b register byte = rw (ne_eqb register 1 other) refl in
+    let wrote = sym (write_done b register byte (not_refused b twelve (not_written register) may) stored is) in
+    let held : byte ≡ cond (eqb register 3) 0 (get_or stored register 0) =
+    rw (ne_eqb register 3 three) (sym (get_or-set_same b register byte 0 (omega arith))) in
+    let tested = not_refused stored (length-set b register byte ∙ twelve) (ltb 11 register) none_given in
+    ap (λ (c : Changed). read c.block register) wrote ∙ sym (read_done stored register tested byte held)
 
 -- "and mean nothing": whatever control is, raise, write and read are alike; so is a poll if its bit 0 is the same
-pub record ControlAlike (isSound : Bool) (b : List ℕ) (control : ℕ) (s : State) : Type 0 where
-  pub polls : bit 0 control ≡ is_on b → poll_if isSound (set b 0 control) s
-      ≡ record { block = set (poll_if isSound b s).block 0 control; answer = (poll_if isSound b s).answer }
+pub record ControlAlike (is_sound : Bool) (b : List ℕ) (control : ℕ) (s : State) : Type 0 where
+  pub polls : bit 0 control ≡ is_on b → poll_if is_sound (set b 0 control) s
+      ≡ record { block = set (poll_if is_sound b s).block 0 control; answer = (poll_if is_sound b s).answer }
   pub raises : (line : ℕ) → raise (set b 0 control) line
       ≡ record { refusal = (raise b line).refusal; block = set (raise b line).block 0 control }
   pub writes : (register byte : ℕ) → (register ≡ 0 → ⊥) → write (set b 0 control) register byte
       ≡ record { refusal = (write b register byte).refusal; block = set (write b register byte).block 0 control }
   pub reads : (register : ℕ) → (register ≡ 0 → ⊥) → read (set b 0 control) register ≡ read b register
 
-pub control_alike : (isSound : Bool) (b : List ℕ) (control : ℕ) (s : State) → ControlAlike isSound b control s
-control_alike isSound b control s =
+pub control_alike : (is_sound : Bool) (b : List ℕ) (control : ℕ) (s : State) → ControlAlike is_sound b control s
+control_alike is_sound b control s =
     record {
-      polls = polls_alike b control isSound s;
+      polls = polls_alike b control is_sound s;
       raises = raises_alike b control;
       writes = writes_alike b control;
       reads = reads_alike b control;
     }
 
 -- no operation but raise sets a pending bit
-pub only_raise_sets : (o : Operation) (isSound : Bool) (b : List ℕ) (s : State) → is_raise o ≡ false → (line : ℕ) → line < 8
-    → is_pending (block_after_one o isSound b s) line ≡ true → is_pending b line ≡ true
-only_raise_sets (Read register) isSound b s other line small pending = pending
-only_raise_sets (Write register byte) isSound b s other line small pending = write_sets_none b register byte line small pending
-only_raise_sets (Raise raised) isSound b s other line small pending = clash true refl other
-only_raise_sets Poll isSound b s other line small pending = poll_sets_none isSound b s line small pending
+pub only_raise_sets : (o : Operation) (is_sound : Bool) (b : List ℕ) (s : State) → is_raise o ≡ false → (line : ℕ) → line < 8
+    → is_pending (block_after_one o is_sound b s) line ≡ true → is_pending b line ≡ true
+only_raise_sets (Read register) is_sound b s other line small pending = pending
+only_raise_sets (Write register byte) is_sound b s other line small pending = write_sets_none b register byte line small pending
+only_raise_sets (Raise raised) is_sound b s other line small pending = clash true refl other
+only_raise_sets Poll is_sound b s other line small pending = poll_sets_none is_sound b s line small pending
 
 -- and an accepted raise sets that of its line alone
 pub raise_sets : (b : List ℕ) (line : ℕ) → (raise b line).refusal ≡ 0 → (other : ℕ) → other < 8
@@ -194,21 +198,21 @@ raise_sets b line accepted other small = raised_pending b line accepted other sm
 
 -- polls until the first refusal, which comes after at most eight that are accepted: they clear exactly the lines whose wakes were accepted,
 -- lowest first, and leave the machine of these wakes
-pub record Drains (isSound : Bool) (b : List ℕ) (s : State) (d : Drained) : Type 0 where
+pub record Drains (is_sound : Bool) (b : List ℕ) (s : State) (d : Drained) : Type 0 where
   pub refused : d.refusal ≡ 0 → ⊥
   pub lowest_first : Rising 0 d.lines
   pub taken : Each (λ line. (line < 8) × (is_pending b line ≡ true) × (is_enabled b line ≡ true) × (is_on b ≡ true)) d.lines
   pub cleared : (line : ℕ) → line < 8 → is_pending d.block line ≡ is_pending b line && not (member line d.lines)
   pub other_bytes : (at : ℕ) → (at ≡ 1 → ⊥) → get_or d.block at 0 ≡ get_or b at 0
   -- the next poll is the refused one
-  pub last : poll_if isSound d.block d.state ≡ unchanged d.refusal d.block d.state
+  pub last : poll_if is_sound d.block d.state ≡ unchanged d.refusal d.block d.state
   -- the wakes in a list: all accepted, and the machine after them. A sound machine that is not rightly stored accepts none
-  pub wakes : (isSound ≡ true → sound s ≡ true) → (numbers_of (run (wakes_of b d.lines) s) ≡ replicate (length d.lines) 0)
+  pub wakes : (is_sound ≡ true → sound s ≡ true) → (numbers_of (run (wakes_of b d.lines) s) ≡ replicate (length d.lines) 0)
       × (d.state ≡ after (wakes_of b d.lines) s)
 
-pub drains : (isSound : Bool) (b : List ℕ) (s : State) → Drains isSound b s (drain 9 isSound b s)
-drains isSound b s =
-    let d = empties 9 0 isSound b s (omega arith) (omega arith) (none_below_0 b) in
+pub drains : (is_sound : Bool) (b : List ℕ) (s : State) → Drains is_sound b s (drain 9 is_sound b s)
+drains is_sound b s =
+    let d = empties 9 0 is_sound b s (omega arith) (omega arith) (none_below_0 b) in
     record {
       refused = d.refused;
       lowest_first = d.lowest_first;

@@ -1,6 +1,4 @@
 -- What the card's definitions mean.
-pub mod BitLaws
-pub mod Bytes
 pub mod Refusing
 pub mod Lowest
 pub mod Answering

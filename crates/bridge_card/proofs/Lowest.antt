@@ -1,45 +1,15 @@
--- The lowest line that passes a test: the search line by line, and what it finds.
-use Prim.Native.Nat.{ℕ, zero, suc, ◌+◌, ◌-◌, ◌≤◌, ◌<◌}
+-- The lowest line that passes a test: what a search from line 0 up finds.
+use Prim.Native.Nat.{ℕ, zero, suc, ◌+◌, ◌≤◌, ◌<◌}
 use native.Mathlib.Omega.{arith}
-use mathlib.Core.Path.{◌≡◌, refl, ap, ◌∙◌, subst}
+use mathlib.Core.Path.{◌≡◌, refl, sym, ap, ◌∙◌, subst}
 use mathlib.Core.Bool.{Bool, true, false, cond}
 use mathlib.Core.Option.{Option, none, some}
-use Rattle.rules.proofs.Basics.Views.{Two, yes_true, no_false, two, Same, equal, different, same}
+use Rattle.std.specs.Option.{MatchOption}
+use Rattle.std.specs.Prelude as std
+use Rattle.std.specs.Prelude.{Some, None}
+use Rattle.rules.proofs.Basics.Views.{Two, yes_true, no_false, two, Same, equal, different, same, clash}
+use Rattle.tables.specs.Sets.{sought_of}
 use Rattle.bridge_card.specs.Card.{lowest_from, lowest}
-use Rattle.bridge_card.specs.Promises.{line_number}
-
--- so many lines are left to look at
-pub record Left (test : ℕ → Bool) (left : ℕ) : Type 0 where
-  pub few : left ≤ 8
-  pub same : lowest test ≡ lowest_from test (8 - left) left
-
-pub all_left : (test : ℕ → Bool) → Left test 8
-all_left test = record { few = omega arith; same = refl }
-
--- it is the next one
-pub found : (test : ℕ → Bool) (left : ℕ) → Left test left → 0 < left → test (8 - left) ≡ true → line_number (lowest test) ≡ 8 - left
-unfolding lowest_from
-found test zero l h e = absurd (omega arith)
-found test (suc n) l h e =
-    let here : lowest_from test (8 - suc n) (suc n) ≡ some (8 - suc n) = rw e refl in
-    ap line_number (l.same ∙ here)
-
--- it is not
-pub passed : (test : ℕ → Bool) (left : ℕ) → Left test left → 0 < left → test (8 - left) ≡ false → Left test (left - 1)
-unfolding lowest_from
-passed test zero l h e = absurd (omega arith)
-passed test (suc n) l h e =
-    let few = l.few in
-    let next : suc (8 - suc n) ≡ 8 - n = omega arith in
-    let less : suc n - 1 ≡ n = omega arith in
-    let here : lowest_from test (8 - suc n) (suc n) ≡ lowest_from test (8 - n) n = rw e (ap (λ (line : ℕ). lowest_from test line n) next) in
-    rw less (record { few = omega arith; same = l.same ∙ here })
-
--- no line is left
-pub none_found : (test : ℕ → Bool) (left : ℕ) → Left test left → left ≤ 0 → line_number (lowest test) ≡ 8
-unfolding lowest_from
-none_found test zero l h = ap line_number l.same
-none_found test (suc n) l h = absurd (omega arith)
 
 -- two tests that agree on the lines find the same line
 same_from : (f g : ℕ → Bool) (line n : ℕ) → ((i : ℕ) → line ≤ i → i < line + n → f i ≡ g i) → lowest_from f line n ≡ lowest_from g line n
@@ -99,3 +69,25 @@ finds test = finds_from test 0 8
 
 pub finds_line : (test : ℕ → Bool) (line : ℕ) → lowest test ≡ some line → Lowest test 0 8 line
 finds_line test line e = subst (Finds test 0 8) e (finds test)
+
+-- a line that passes, and none below it does, is the one found
+pub found_lowest : (test : ℕ → Bool) (line : ℕ) → line < 8 → test line ≡ true → ((lower : ℕ) → lower < line → test lower ≡ false)
+    → (o : Option ℕ) → Finds test 0 8 o → o ≡ some line
+found_lowest test line small here lower none f = clash (test line) here (f line (omega arith) small)
+found_lowest test line small here lower (some k) f =
+    let not_below : (k < line) → ⊥ = λ h. clash (test k) f.passes (lower k h) in
+    let not_above : (line < k) → ⊥ = λ h. clash (test line) here (f.first line (omega arith) h) in
+    let this : k ≡ line = omega arith in
+    ap some this
+
+-- what a search from line 0 up finds
+pub searched : (test : ℕ → Bool) (r : std.Option ℕ) → MatchOption r ((k : ℕ) → 0 ≤ k → k < 8 → test k ≡ false)
+    (λ line. (0 ≤ line) × (line < 8) × (test line ≡ true) × ((k : ℕ) → 0 ≤ k → k < line → test k ≡ false))
+    → sought_of r ≡ lowest test
+searched test None none_passes = sym (none_of (lowest test) (finds test))
+  where
+    none_of : (o : Option ℕ) → Finds test 0 8 o → o ≡ none
+    none_of none f = refl
+    none_of (some line) f = clash (test line) f.passes (none_passes line f.above f.inside)
+searched test (Some line) (_, small, passes, first) =
+    sym (found_lowest test line small passes (λ lower below. first lower (omega arith) below) (lowest test) (finds test))

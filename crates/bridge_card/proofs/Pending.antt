@@ -9,10 +9,11 @@ use lib.ListN.{length, get_or, length-set}
 use lib.Seq.{get_or-set_same, get_or-set_other}
 use borrow.Author.Tests.{eq-eqb, ne_eqb}
 use Rattle.rules.proofs.Basics.Views.{and_false_right}
-use Rattle.bridge_card.specs.Bits.{bit, byte_of}
+use Rattle.bits.specs.Bits.{bit}
+use Rattle.bridge_card.specs.Card.{byte_of}
 use Rattle.bridge_card.specs.Card.{is_pending, with_pending, line_cleared}
 use Rattle.bridge_card.specs.Meaning.{Cleared}
-use Rattle.bridge_card.proofs.BitLaws.{bit_of}
+use Rattle.bits.proofs.BitLaws.{bit_of}
 
 module _ (lines : ℕ → Bool) (b : List ℕ) where
   pub now_pending : length b ≡ 12 → (line : ℕ) → line < 8 → is_pending (with_pending lines b) line ≡ lines line

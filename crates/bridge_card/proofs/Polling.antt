@@ -1,23 +1,29 @@
 -- What a poll of a stored machine answers, by the line that was found and by the wake's answer.
-use Prim.Native.Nat.{ℕ, zero, suc, ◌<◌}
+use Prim.Native.Nat.{ℕ, ◌<◌}
 use native.Mathlib.Omega.{arith}
 use mathlib.Core.Path.{◌≡◌, refl, sym, ap, ◌∙◌, subst}
 use mathlib.Core.List.{List}
-use mathlib.Core.Bool.{Bool, true, false, cond}
+use mathlib.Core.Bool.{Bool, true, false, cond, not, ◌&&◌}
 use mathlib.Core.Option.{Option, none, some}
-use lib.ListN.{length}
+use lib.Dec.{eqb}
+use lib.ListN.{length, set}
+use Rattle.std.specs.Prelude.{Result, Ok, Err, is_ok}
+use Rattle.rules.specs.declared.refusal.Refusal.{Refusal}
+use Rattle.rules.specs.declared.refusal.Refusal.TheVariants.{NoLine}
+use Rattle.rules.specs.RefusalNumbers.{number_of}
 use Rattle.rules.specs.declared.Event.TheVariants.{Wake}
 use Rattle.rules.specs.State.{State}
 use Rattle.rules.specs.Events.{refused, offer_if}
 use Rattle.rules.specs.Events as events
 use Rattle.dispatcher.specs.declared.Machine.{Machine}
-use Rattle.dispatcher.specs.declared.Answered.{Answered}
+use Rattle.dispatcher.specs.Promise.{Answered}
 use Rattle.dispatcher.specs.Shown.{shown, sound_machine}
-use Rattle.dispatcher.specs.Promise.{Answers}
+use Rattle.dispatcher.specs.Promise.{answered, Answers}
 use Rattle.bridge_card.specs.Card.{is_on, may_take, thread_of, lowest, line_to_take, line_cleared, Polled, unchanged, block_after, woken}
-use Rattle.bridge_card.specs.Card.{poll_if}
-use Rattle.bridge_card.specs.Promises.{line_number, poll_of, Polls}
-use Rattle.bridge_card.proofs.Refusing.{no_block, a_block}
+use Rattle.bridge_card.specs.Card.{is_block, is_pending, byte_of, refusal_of, poll_if}
+use Rattle.bridge_card.specs.Promises.{poll_of, Polls}
+use Rattle.rules.proofs.Basics.Views.{Two, yes_true, no_false, two, clash}
+use Rattle.bridge_card.proofs.Refusing.{no_block, a_block, twelve_long}
 use Rattle.bridge_card.proofs.Lowest.{Finds, finds}
 
 -- a line is one of the eight
@@ -34,72 +40,77 @@ within b = by (is_on b) (lowest (may_take b)) (finds (may_take b))
     by true (some line) f = f.inside
     by false o f = tt
 
--- by the number that the code found
-module _ (b : List ℕ) (n : ℕ) (found : n ≡ line_number (line_to_take b)) where
-  pub no_line : n ≡ 8 → line_to_take b ≡ none
-  no_line e = by (line_to_take b) (within b) (sym found ∙ e)
-    where
-      by : (o : Option ℕ) → Within o → line_number o ≡ 8 → o ≡ none
-      by none w e = refl
-      by (some line) w e = absurd (omega arith)
-
-  pub a_line : (n ≡ 8 → ⊥) → (line_to_take b ≡ some n) × (n < 8)
-  a_line other = by (line_to_take b) (within b) found
-    where
-      by : (o : Option ℕ) → Within o → n ≡ line_number o → (o ≡ some n) × (n < 8)
-      by none w e = absurd (other e)
-      by (some line) w e = (ap some (sym e), omega arith)
+-- the line that a poll takes
+pub one_of_eight : (b : List ℕ) (line : ℕ) → some line ≡ line_to_take b → line < 8
+one_of_eight b line e = subst Within (sym e) (within b)
 
 -- "20, a block that is not 12 bytes, before all others"
-pub polled_20 : (isSound : Bool) (b : List ℕ) (s : State) → (length b ≡ 12 → ⊥) → poll_if isSound b s ≡ unchanged 20 b s
+pub polled_20 : (is_sound : Bool) (b : List ℕ) (s : State) → (length b ≡ 12 → ⊥) → poll_if is_sound b s ≡ unchanged 20 b s
 unfolding poll_if
-polled_20 isSound b s other = rw (no_block b other) refl
+polled_20 is_sound b s other = rw (no_block b other) refl
 
 -- "22, no line to take at a poll, after 20 and before all refusals of the wake, 1 included"
-pub polled_22 : (isSound : Bool) (b : List ℕ) (s : State) → length b ≡ 12 → line_to_take b ≡ none → poll_if isSound b s ≡ unchanged 22 b s
+pub polled_22 : (is_sound : Bool) (b : List ℕ) (s : State) → length b ≡ 12 → line_to_take b ≡ none → poll_if is_sound b s ≡ unchanged 22 b s
 unfolding poll_if
-polled_22 isSound b s twelve e = rw (a_block b twelve, e) refl
+polled_22 is_sound b s twelve e = rw (a_block b twelve, e) refl
 
 -- "takes the lowest line .., clears its bit and wakes its thread"
-pub polled_line : (isSound : Bool) (b : List ℕ) (s : State) (line : ℕ) → length b ≡ 12 → line_to_take b ≡ some line
-    → poll_if isSound b s ≡ woken b line (offer_if isSound (Wake (thread_of b line)) s)
+pub polled_line : (is_sound : Bool) (b : List ℕ) (s : State) (line : ℕ) → length b ≡ 12 → line_to_take b ≡ some line
+    → poll_if is_sound b s ≡ woken b line (offer_if is_sound (Wake (thread_of b line)) s)
 unfolding poll_if
-polled_line isSound b s line twelve e = rw (a_block b twelve, e) refl
+polled_line is_sound b s line twelve e = rw (a_block b twelve, e) refl
 
--- a poll of a stored machine that is refused before the wake
-pub poll_refused : (b : List ℕ) (m : Machine) (number : ℕ) → poll_of b m ≡ unchanged number b (shown m)
-    → Polls b m b (record { machine = m; refusal = number; links = 0 })
-poll_refused b m number e =
-    let answer = ap (λ (p : Polled). p.answer) e in (
-      ap (λ (p : Polled). p.block) (sym e),
-      record {
-        refusal = ap (λ (a : events.Answered). a.refusal) (sym answer);
-        links = ap (λ (a : events.Answered). a.links) (sym answer);
-        state = ap (λ (a : events.Answered). a.state) (sym answer);
-        exact = refl;
-        kept = λ given. refl;
-      },
-    )
-
--- one that wakes a thread: the bit is cleared if the wake is accepted, and only then
-module _ (b : List ℕ) (m : Machine) (line : ℕ) (r : Answered) (twelve : length b ≡ 12) (taken : line_to_take b ≡ some line)
-    (given : Answers (offer_if (sound_machine m) (Wake (thread_of b line)) (shown m)) m r) where
-  abbrev wake : events.Answered
-  wake = offer_if (sound_machine m) (Wake (thread_of b line)) (shown m)
-
-  polls : (after : List ℕ) → after ≡ block_after r.refusal b line → Polls b m after r
-  polls after e =
-      let this = polled_line (sound_machine m) b (shown m) line twelve taken in (
-        e ∙ ap (λ (k : ℕ). block_after k b line) given.refusal ∙ ap (λ (p : Polled). p.block) (sym this),
-        subst (λ (p : Polled). Answers p.answer m r) (sym this) given,
+module _ (b : List ℕ) (m : Machine) where
+  -- a poll of a stored machine that is refused before the wake
+  refused_before : (x : Refusal) → poll_of b m ≡ unchanged (number_of x) b (shown m) → Polls b m b (answered m (Err x))
+  refused_before x e =
+      let answer = ap (λ (p : Polled). p.answer) e in (
+        ap (λ (p : Polled). p.block) (sym e),
+        record {
+          refusal = ap (λ (a : events.Answered). a.refusal) (sym answer);
+          links = ap (λ (a : events.Answered). a.links) (sym answer);
+          state = ap (λ (a : events.Answered). a.state) (sym answer);
+          exact = refl;
+          kept = λ given. refl;
+        },
       )
 
-  pub poll_accepted : r.refusal ≡ 0 → Polls b m (line_cleared b line) r
-  poll_accepted e = polls (line_cleared b line) (ap (λ (k : ℕ). block_after k b line) (sym e))
-
-  pub poll_held : (r.refusal ≡ 0 → ⊥) → Polls b m b r
-  poll_held other = polls b (by r.refusal other)
+  pub poll_20 : (x : Refusal) → number_of x ≡ refusal_of b false → Polls b m b (answered m (Err x))
+  unfolding poll_if
+  poll_20 x e = by (two (is_block b))
     where
-      by : (k : ℕ) → (k ≡ 0 → ⊥) → b ≡ block_after k b line
-      by zero n = absurd (n refl)
-      by (suc k) n = refl
+      by : Two (is_block b) → Polls b m b (answered m (Err x))
+      by (yes_true block) = let none_given : number_of x ≡ 0 = e ∙ rw block refl in absurd (grind (arith, none_given))
+      by (no_false other) =
+          let twenty : number_of x ≡ 20 = e ∙ rw other refl in refused_before x (rw (other, twenty) refl)
+
+  pub poll_22 : 0 ≡ refusal_of b false → none ≡ line_to_take b → Polls b m b (answered m (Err NoLine))
+  poll_22 e none_there =
+      refused_before NoLine (polled_22 (sound_machine m) b (shown m) (twelve_long b false (sym e)) (sym none_there))
+
+  -- one that wakes a thread: the bit is cleared if the wake is accepted, and only then
+  module _ {line thread : ℕ} {r : Answered} (e : 0 ≡ refusal_of b false) (taken : some line ≡ line_to_take b)
+      (its : thread ≡ thread_of b line) (given : Answers (offer_if (sound_machine m) (Wake thread) (shown m)) m r) where
+    polls : (after : List ℕ) → after ≡ block_after r.refusal b line → Polls b m after r
+    polls after is =
+        let answer = offer_if (sound_machine m) (Wake thread) (shown m) in
+        let this : poll_of b m ≡ woken b line answer =
+        polled_line (sound_machine m) b (shown m) line (twelve_long b false (sym e)) (sym taken)
+        ∙ ap (λ (n : ℕ). woken b line (offer_if (sound_machine m) (Wake n) (shown m))) (sym its) in (
+          is ∙ ap (λ (k : ℕ). block_after k b line) given.refusal ∙ ap (λ (p : Polled). p.block) (sym this),
+          subst (λ (p : Polled). Answers p.answer m r) (sym this) given,
+        )
+
+  module _ {line thread : ℕ} {after : Machine} (e : 0 ≡ refusal_of b false) (taken : some line ≡ line_to_take b)
+      (its : thread ≡ thread_of b line) where
+    pub poll_held : (r : Result ℕ Refusal) → is_ok r ≡ false
+        → Answers (offer_if (sound_machine m) (Wake thread) (shown m)) m (answered after r) → Polls b m b (answered after r)
+    poll_held (Ok links) ok given = clash true refl ok
+    poll_held (Err x) ok given = polls e taken its given b (grind arith)
+
+    pub poll_accepted : (r : Result ℕ Refusal) (byte : ℕ) → is_ok r ≡ true
+        → Answers (offer_if (sound_machine m) (Wake thread) (shown m)) m (answered after r)
+        → byte ≡ byte_of (λ j. is_pending b j && not (eqb j line)) → Polls b m (set b 1 byte) (answered after r)
+    unfolding line_cleared
+    poll_accepted (Ok links) byte ok given cleared = polls e taken its given (set b 1 byte) (ap (set b 1) cleared)
+    poll_accepted (Err x) byte ok given cleared = clash false ok refl

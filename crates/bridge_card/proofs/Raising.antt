@@ -4,16 +4,16 @@ use native.Mathlib.Omega.{arith}
 use mathlib.Core.Path.{◌≡◌, refl, sym, ap, ◌∙◌}
 use mathlib.Core.List.{List}
 use mathlib.Core.Bool.{Bool, true, false, not, ◌&&◌, ◌||◌}
-use lib.Dec.{eqb}
+use lib.Dec.{eqb, ltb}
 use lib.ListN.{length, get_or}
 use lib.Seq.{get_or-set_other}
 use borrow.Author.Tests.{ne_eqb}
 use Rattle.rules.proofs.Basics.Views.{Same, equal, different, same, and_true_left}
-use Rattle.bridge_card.specs.Bits.{bit}
-use Rattle.bridge_card.specs.Card.{is_pending, thread_of, raise_refusal, changed_after, write_refusal, written, write}
+use Rattle.bits.specs.Bits.{bit}
+use Rattle.bridge_card.specs.Card.{is_pending, thread_of, raise_refusal, changed_after, write_refusal, not_written, written, write}
 use Rattle.bridge_card.specs.Card.{raised, raise}
 use Rattle.bridge_card.specs.Meaning.{Takes, Cleared}
-use Rattle.bridge_card.proofs.Refusing.{write_accepted, raise_accepted}
+use Rattle.bridge_card.proofs.Refusing.{twelve_long}
 use Rattle.bridge_card.proofs.Pending.{now_pending, other_bytes, as_long}
 
 -- whatever holds of the block as it was, and of the changed one
@@ -22,15 +22,15 @@ by_change P zero changed b accepted kept = accepted refl
 by_change P (suc k) changed b accepted kept = kept
 
 pub by_raise : (P : List ℕ → Type 0) (b : List ℕ) (line : ℕ) → (length b ≡ 12 → P (raised b line)) → P b → P (raise b line).block
-unfolding raise
+unfolding raise raise_refusal
 by_raise P b line accepted kept =
-    by_change P (raise_refusal b line) (raised b line) b (λ e. accepted (raise_accepted b line e).0) kept
+    by_change P (raise_refusal b line) (raised b line) b (λ e. accepted (twelve_long b (ltb 7 line) e)) kept
 
 pub by_write : (P : List ℕ → Type 0) (b : List ℕ) (register byte : ℕ) → (length b ≡ 12 → P (written b register byte)) → P b
     → P (write b register byte).block
-unfolding write
+unfolding write write_refusal
 by_write P b register byte accepted kept =
-    by_change P (write_refusal b register) (written b register byte) b (λ e. accepted (write_accepted b register e).0) kept
+    by_change P (write_refusal b register) (written b register byte) b (λ e. accepted (twelve_long b (not_written register) e)) kept
 
 -- a write sets no pending bit
 pub write_sets_none : (b : List ℕ) (register byte line : ℕ) → line < 8 → is_pending (write b register byte).block line ≡ true
@@ -52,8 +52,8 @@ module _ (b : List ℕ) (line : ℕ) where
 
   -- an accepted raise
   pub raised_pending : (raise b line).refusal ≡ 0 → (other : ℕ) → other < 8 → is_pending (raise b line).block other ≡ and_this other
-  unfolding raise
-  raised_pending e other small = by (raise_refusal b line) (λ is. (raise_accepted b line is).0) e
+  unfolding raise raise_refusal
+  raised_pending e other small = by (raise_refusal b line) (twelve_long b (ltb 7 line)) e
     where
       by : (k : ℕ) → (k ≡ 0 → length b ≡ 12) → (changed_after k (raised b line) b).refusal ≡ 0
           → is_pending (changed_after k (raised b line) b).block other ≡ and_this other

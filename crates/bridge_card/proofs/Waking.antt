@@ -19,14 +19,14 @@ dispatched : (k number : ℕ) (e : Event) (s : State) → (dispatch_after k e s)
 dispatched zero number e s is = absurd (omega arith)
 dispatched (suc k) number e s is = ap (λ (n : ℕ). refused n s) is
 
-pub as_given : (isSound : Bool) (e : Event) (s : State) (number : ℕ) → (offer_if isSound e s).refusal ≡ suc number
-    → offer_if isSound e s ≡ refused (suc number) s
+pub as_given : (is_sound : Bool) (e : Event) (s : State) (number : ℕ) → (offer_if is_sound e s).refusal ≡ suc number
+    → offer_if is_sound e s ≡ refused (suc number) s
 unfolding dispatch
 as_given true e s number is = dispatched (refusal e (forget s)) number e s is
 as_given false e s number is = ap (λ (n : ℕ). refused n s) is
 
 -- accepted, on a sound machine
-pub wakes_sound : (isSound : Bool) (e : Event) (s : State) → (offer_if isSound e s).refusal ≡ 0 → isSound ≡ true
+pub wakes_sound : (is_sound : Bool) (e : Event) (s : State) → (offer_if is_sound e s).refusal ≡ 0 → is_sound ≡ true
 wakes_sound true e s is = refl
 wakes_sound false e s is = absurd (omega arith)
 
@@ -34,19 +34,19 @@ pub wake_ranged : (n : ℕ) → Ranged (Wake n)
 wake_ranged n = other_kind (Wake n) (λ z. omega arith) (λ z. omega arith)
 
 -- offered as in a list
-pub as_offered : (isSound : Bool) (e : Event) (s : State) → isSound ≡ sound s → offer_if isSound e s ≡ offer e s
+pub as_offered : (is_sound : Bool) (e : Event) (s : State) → is_sound ≡ sound s → offer_if is_sound e s ≡ offer e s
 unfolding offer
-as_offered isSound e s is = ap (λ (q : Bool). offer_if q e s) is
+as_offered is_sound e s is = ap (λ (q : Bool). offer_if q e s) is
 
 -- an accepted wake is so already if a machine held for sound is sound: no other accepts one
-module _ (isSound : Bool) (n : ℕ) (s : State) (if-held : isSound ≡ true → sound s ≡ true)
-    (none-given : (offer_if isSound (Wake n) s).refusal ≡ 0) where
-  held : isSound ≡ true
-  held = wakes_sound isSound (Wake n) s none-given
+module _ (is_sound : Bool) (n : ℕ) (s : State) (if-held : is_sound ≡ true → sound s ≡ true)
+    (none-given : (offer_if is_sound (Wake n) s).refusal ≡ 0) where
+  held : is_sound ≡ true
+  held = wakes_sound is_sound (Wake n) s none-given
 
-  pub accepted_offered : offer_if isSound (Wake n) s ≡ offer (Wake n) s
-  accepted_offered = as_offered isSound (Wake n) s (held ∙ sym (if-held held))
+  pub accepted_offered : offer_if is_sound (Wake n) s ≡ offer (Wake n) s
+  accepted_offered = as_offered is_sound (Wake n) s (held ∙ sym (if-held held))
 
-  pub stays_sound : sound (offer_if isSound (Wake n) s).state ≡ true
+  pub stays_sound : sound (offer_if is_sound (Wake n) s).state ≡ true
   stays_sound =
       ap (λ (a : Answered). sound a.state) accepted_offered ∙ accepted_sound (Wake n) s (wake_ranged n) (if-held held)

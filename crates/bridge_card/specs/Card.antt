@@ -6,8 +6,11 @@ use Rattle.rules.specs.State.{State}
 use Rattle.rules.specs.Sound.{sound}
 use Rattle.rules.specs.Refusals.{◌gives◌else◌}
 use Rattle.rules.specs.Events.{Answered, refused, offer_if}
-use Rattle.bridge_card.specs.declared.Reading.{Reading}
-use Rattle.bridge_card.specs.Bits.{bit, byte_of}
+use Rattle.bits.specs.Bits.{bit, number_of}
+
+-- the byte that has the bits that are given one by one
+abbrev pub byte_of : (ℕ → Bool) → ℕ
+byte_of f = number_of 8 f
 
 -- "a register block of 12 lent bytes"
 abbrev pub is_block : List ℕ → Bool
@@ -48,6 +51,11 @@ write_refusal b register = refusal_of b (not_written register)
 
 unfoldable pub raise_refusal : List ℕ → ℕ → ℕ
 raise_refusal b line = refusal_of b (ltb 7 line)
+
+-- what a read hands back: its refusal number, 0 for none, and the byte
+pub record Reading : Type 0 where
+  pub refusal : ℕ
+  pub byte : ℕ
 
 -- "byte 3 reads 0", "a refused read gives 0"
 abbrev pub read_after : ℕ → List ℕ → ℕ → Reading
@@ -117,13 +125,13 @@ block_after (suc number) b line = b
 abbrev pub woken : List ℕ → ℕ → Answered → Polled
 woken b line a = record { block = block_after a.refusal b line; answer = a }
 
--- "22, no line to take at a poll, after 20 and before all refusals of the wake, 1 included"; `isSound` says whether the machine is
+-- "22, no line to take at a poll, after 20 and before all refusals of the wake, 1 included"; `is_sound` says whether the machine is
 abbrev pub polled_with : Option ℕ → Bool → List ℕ → State → Polled
-polled_with none isSound b s = unchanged 22 b s
-polled_with (some line) isSound b s = woken b line (offer_if isSound (Wake (thread_of b line)) s)
+polled_with none is_sound b s = unchanged 22 b s
+polled_with (some line) is_sound b s = woken b line (offer_if is_sound (Wake (thread_of b line)) s)
 
 unfoldable pub poll_if : Bool → List ℕ → State → Polled
-poll_if isSound b s = cond (is_block b) (polled_with (line_to_take b) isSound b s) (unchanged 20 b s)
+poll_if is_sound b s = cond (is_block b) (polled_with (line_to_take b) is_sound b s) (unchanged 20 b s)
 
 abbrev pub poll : List ℕ → State → Polled
 poll b s = poll_if (sound s) b s

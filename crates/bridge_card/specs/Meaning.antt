@@ -7,7 +7,7 @@ use Rattle.rules.specs.State.{State}
 use Rattle.rules.specs.Events.{Answered, refused, offer_if}
 use Rattle.bridge_card.specs.Card.{is_on, is_pending, is_enabled, thread_of, write, raise, line_to_take, Polled, unchanged, poll_if}
 use Rattle.dispatcher.specs.declared.Machine.{Machine}
-use Rattle.dispatcher.specs.declared.Answered as code
+use Rattle.dispatcher.specs.Promise as code
 use Rattle.bridge_card.specs.Promises.{line_number, Polls}
 
 -- "the lowest line that is pending and enabled, with the card on"
@@ -27,20 +27,20 @@ pub record Cleared (b after : List ℕ) (line : ℕ) : Type 0 where
 
 -- the answer to the wake of a line's thread
 abbrev pub wake_of : Bool → List ℕ → State → ℕ → Answered
-wake_of isSound b s line = offer_if isSound (Wake (thread_of b line)) s
+wake_of is_sound b s line = offer_if is_sound (Wake (thread_of b line)) s
 
 -- what a poll comes to
-pub data Comes (isSound : Bool) (b : List ℕ) (s : State) : Polled → Type 0 where
+pub data Comes (is_sound : Bool) (b : List ℕ) (s : State) : Polled → Type 0 where
   -- 20
-  no_block : (length b ≡ 12 → ⊥) → Comes isSound b s (unchanged 20 b s)
+  no_block : (length b ≡ 12 → ⊥) → Comes is_sound b s (unchanged 20 b s)
   -- 22: no line can be taken
-  no_line : length b ≡ 12 → ((line : ℕ) → Takes b line → ⊥) → Comes isSound b s (unchanged 22 b s)
+  no_line : length b ≡ 12 → ((line : ℕ) → Takes b line → ⊥) → Comes is_sound b s (unchanged 22 b s)
   -- the wake's own number
-  wake_refused : {number : ℕ} (line : ℕ) → length b ≡ 12 → Takes b line → wake_of isSound b s line ≡ refused (suc number) s
-      → Comes isSound b s (unchanged (suc number) b s)
+  wake_refused : {number : ℕ} (line : ℕ) → length b ≡ 12 → Takes b line → wake_of is_sound b s line ≡ refused (suc number) s
+      → Comes is_sound b s (unchanged (suc number) b s)
   -- the line's bit is cleared, and its thread woken
-  accepted : {after : List ℕ} (line : ℕ) → length b ≡ 12 → Takes b line → (wake_of isSound b s line).refusal ≡ 0 → Cleared b after line
-      → Comes isSound b s (record { block = after; answer = wake_of isSound b s line })
+  accepted : {after : List ℕ} (line : ℕ) → length b ≡ 12 → Takes b line → (wake_of is_sound b s line).refusal ≡ 0 → Cleared b after line
+      → Comes is_sound b s (record { block = after; answer = wake_of is_sound b s line })
 
 -- the four operations
 pub data Operation : Type 0 where
@@ -51,10 +51,10 @@ pub data Operation : Type 0 where
 
 -- the block after one
 abbrev pub block_after_one : Operation → Bool → List ℕ → State → List ℕ
-block_after_one (Read register) isSound b s = b
-block_after_one (Write register byte) isSound b s = (write b register byte).block
-block_after_one (Raise line) isSound b s = (raise b line).block
-block_after_one Poll isSound b s = (poll_if isSound b s).block
+block_after_one (Read register) is_sound b s = b
+block_after_one (Write register byte) is_sound b s = (write b register byte).block
+block_after_one (Raise line) is_sound b s = (raise b line).block
+block_after_one Poll is_sound b s = (poll_if is_sound b s).block
 
 abbrev pub is_raise : Operation → Bool
 is_raise (Read register) = false
@@ -83,10 +83,10 @@ drained_after zero line later b s = taken_first line later
 drained_after (suc number) line later b s = record { lines = []; block = b; state = s; refusal = suc number }
 
 unfoldable pub drain : ℕ → Bool → List ℕ → State → Drained
-drain zero isSound b s = record { lines = []; block = b; state = s; refusal = 0 }
-drain (suc n) isSound b s =
-    let p = poll_if isSound b s in
-    drained_after p.answer.refusal (line_number (line_to_take b)) (drain n isSound p.block p.answer.state) b s
+drain zero is_sound b s = record { lines = []; block = b; state = s; refusal = 0 }
+drain (suc n) is_sound b s =
+    let p = poll_if is_sound b s in
+    drained_after p.answer.refusal (line_number (line_to_take b)) (drain n is_sound p.block p.answer.state) b s
 
 -- the wakes of these lines' threads, as events of a list
 abbrev pub wakes_of : List ℕ → List ℕ → List Event

@@ -1,11 +1,18 @@
--- How the code says which line it found, and what a poll of the stored machine promises.
-use Rattle.std.specs.Prelude.{ℕ, ◌≡◌, List}
+-- How the code says what it read and which line it found, and what a poll of the stored machine promises.
+use Rattle.std.specs.Prelude.{ℕ, ◌≡◌, List, Result, Ok, Err}
 use Rattle.std.proofs.Math.Option.{Option, none, some}
+use Rattle.rules.specs.declared.refusal.Refusal.{Refusal}
+use Rattle.rules.specs.RefusalNumbers.{number_of}
 use Rattle.dispatcher.specs.declared.Machine.{Machine}
-use Rattle.dispatcher.specs.declared.Answered.{Answered}
+use Rattle.dispatcher.specs.Promise.{Answered}
 use Rattle.dispatcher.specs.Shown.{shown, sound_machine}
 use Rattle.dispatcher.specs.Promise.{Answers}
-use Rattle.bridge_card.specs.Card.{Polled, poll_if}
+use Rattle.bridge_card.specs.Card.{Reading, Polled, poll_if}
+
+-- the number of a read's refusal, 0 for none, and the byte: "a refused read gives 0"
+abbrev pub reading_of : Result ℕ Refusal → Reading
+reading_of (Ok byte) = record { refusal = 0; byte = byte }
+reading_of (Err refusal) = record { refusal = number_of refusal; byte = 0 }
 
 -- 8 where there is none
 abbrev pub line_number : Option ℕ → ℕ

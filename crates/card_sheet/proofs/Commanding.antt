@@ -1,9 +1,10 @@
 -- COMMAND BY COMMAND: the lines put so far and those of the commands that are left make the whole.
-use Prim.Native.Nat.{ℕ, suc, ◌+◌, ◌-◌, ◌*◌, ◌≤◌, ◌<◌}
+use Prim.Native.Nat.{ℕ, suc, ◌+◌, ◌*◌, ◌≤◌}
 use native.Mathlib.Omega.{arith}
-use mathlib.Core.Path.{◌≡◌, refl, sym, ap, ◌∙◌, subst}
+use mathlib.Core.Path.{◌≡◌, sym, ap, ◌∙◌, subst}
 use mathlib.Core.List.{List, ◌∷◌, ◌++◌, append_assoc}
-use lib.ListN.{length}
+use Rattle.std.specs.Result.{result_unwrap_or}
+use Rattle.rules.specs.RefusalNumbers.{number_in, links_in}
 use Rattle.rules.specs.EventFile.{Bytes, or_none, file_refusal, events_of}
 use Rattle.rules.specs.Key.{decimal, line}
 use Rattle.event_file.specs.Left.{events_at, Left}
@@ -13,6 +14,7 @@ use Rattle.dispatcher.specs.Shown.{shown, sound_machine, empty_machine}
 use Rattle.dispatcher.proofs.Runs.{shows_empty, empty_machine_sound}
 use Rattle.replay.specs.Running.{Ready}
 use Rattle.replay.proofs.Inputs.{file_accepted}
+use Rattle.replay.proofs.Turns.{links_said}
 use Rattle.text.specs.Line.{line_bytes}
 use Rattle.text.specs.Put.{Put}
 use Rattle.text.proofs.Puts.{◌then◌, reading}
@@ -27,17 +29,19 @@ use Rattle.card_sheet.specs.Promises.{stand_of, Obeys}
 use Rattle.card_sheet.proofs.Inputs.{file_early}
 
 -- the lines of what a command did
-pub its_lines : {d : Done} {file after : List ℕ} {r : Obeyed} (number : ℕ) → Obeys d file after r
-    → line_bytes number r.refusal r.machine.running r.links ++ (decimal r.byte ++ block_text after) ≡ two_lines number d
+its_lines : {d : Done} {file after : List ℕ} {r : Obeyed} (number : ℕ) → Obeys d file after r
+    → line_bytes number (number_in r.answer) r.machine.running (links_in r.answer) ++ (decimal r.byte ++ block_text after)
+    ≡ two_lines number d
 unfolding line_bytes line two_lines
 its_lines {d} {after = after} {r = r} number o =
-    let answer : record { state = shown r.machine; refusal = r.refusal; links = r.links } ≡ d.answer =
+    let answer : record { state = shown r.machine; refusal = number_in r.answer; links = links_in r.answer } ≡ d.answer =
     λ i. record { state = o.state i; refusal = o.refusal i; links = o.links i } in
-    sym (append_assoc (line_bytes number r.refusal r.machine.running r.links) (decimal r.byte) (block_text after))
+    let first = line_bytes number (number_in r.answer) r.machine.running (links_in r.answer) in
+    sym (append_assoc first (decimal r.byte) (block_text after))
     ∙ (λ i. line number (answer i) ++ decimal (o.byte i) ++ block_text (o.block i))
 
 -- and where it leaves the code
-pub next_stand : {d : Done} {file after : List ℕ} {r : Obeyed} → Obeys d file after r
+next_stand : {d : Done} {file after : List ℕ} {r : Obeyed} → Obeys d file after r
     → stand_of after file r.offset r.machine ≡ stand_after d
 next_stand o =
     let block = o.block in
@@ -45,22 +49,20 @@ next_stand o =
     let events = ap or_none o.left.reads in
     λ i. record { block = block i; state = state i; events = events i }
 
-pub next_ready : {d : Done} {file after : List ℕ} {r : Obeyed} → Obeys d file after r → Ready file r.offset r.machine
+next_ready : {d : Done} {file after : List ℕ} {r : Obeyed} → Obeys d file after r → Ready file r.offset r.machine
 next_ready {file = file} {r = r} o =
     record { left = subst (Left file r.offset) (sym (ap or_none o.left.reads)) o.left; sound = o.sound }
 
-pub record Commanding (input file before now block₀ block : List ℕ) (m : Machine) (offset place left number at : ℕ) : Type 0 where
+pub record Commanding (input file before now block : List ℕ) (m : Machine) (offset place left number at : ℕ) : Type 0 where
   pub inside : place + 3 * left ≤ 1022
-  pub few : number + left ≤ 256
   pub ready : Ready file offset m
-  pub size : length block ≡ length block₀
   pub going : Going before now 0 at (command_lines number (commands_from input place left) (stand_of block file offset m))
       (command_lines 1 (commands_in input) (at_first input))
 
 -- before the first command
 pub command_none : (input out : List ℕ) {file block : List ℕ} {m : Machine} {place left : ℕ} → Bytes input → input_refusal input ≡ 0
     → file ≡ file_in input → block ≡ block_in input → m ≡ empty_machine → place ≡ count_at input → left ≡ command_count input
-    → Commanding input file out out block block m 5 (place + 1) left 1 0
+    → Commanding input file out out block m 5 (place + 1) left 1 0
 unfolding events_of
 command_none input out {file} {block} {m} {place} {left} narrow accepted is-file is_Block is-empty at count =
     let early = file_early input narrow in
@@ -72,46 +74,42 @@ command_none input out {file} {block} {m} {place} {left} narrow accepted is-file
     λ i. command_lines 1 (commands_from input (at i + 1) (count i)) (stand i) in
     record {
       inside = omega (arith, early, at, count);
-      few = omega (arith, count, narrow (count_at input));
       ready =
           record {
             left = all_left file (ap file_refusal is-file ∙ file_accepted (file_at input) input accepted);
             sound = ap sound_machine is-empty ∙ empty_machine_sound;
           };
-      size = refl;
       going = putting.same_left (begin out 0 (command_lines 1 (commands_in input) (at_first input))) (sym whole);
     }
 
-module _ {input file before now block₀ block : List ℕ} {m : Machine} {offset place left number at : ℕ}
-    (x : Commanding input file before now block₀ block m offset place left number at) where
+module _ {input file before now block : List ℕ} {m : Machine} {offset place left number at : ℕ}
+    (x : Commanding input file before now block m offset place left number at) where
   -- one command, and its two lines
-  pub command_one : 0 < left → {c : Command} {after middle next : List ℕ} {second to : ℕ} {r : Obeyed} → c ≡ command_from input place
-      → Obeys (done c (stand_of block file offset m)) file after r → length after ≡ length block
-      → Put now middle at second (line_bytes number r.refusal r.machine.running r.links)
+  pub command_one : (fewer : ℕ) → left ≡ suc fewer → {c : Command} {after middle next : List ℕ} {refusal links second to : ℕ} {r : Obeyed}
+      → c ≡ command_from input place → Obeys (done c (stand_of block file offset m)) file after r
+      → refusal ≡ number_in r.answer → links ≡ result_unwrap_or r.answer 0
+      → Put now middle at second (line_bytes number refusal r.machine.running links)
       → Put middle next second to (decimal r.byte ++ block_text after)
-      → Commanding input file before next block₀ after r.machine r.offset (place + 3) (left - 1) (number + 1) to
+      → Commanding input file before next after r.machine r.offset (place + 3) fewer (number + 1) to
   unfolding commands_from command_lines
-  command_one some {c} {after} {middle} {next} {second} {to} {r} is o kept p q =
+  command_one fewer one {c} {after} {r = r} is o said followed p q =
       let d = done c (stand_of block file offset m) in
-      let one : left ≡ suc (left - 1) = omega arith in
-      let cs = commands_from input (place + 3) (left - 1) in
+      let cs = commands_from input (place + 3) fewer in
       let rest : List ℕ = command_lines (number + 1) cs (stand_of after file r.offset r.machine) in
       let later : command_lines (number + 1) cs (stand_after d) ≡ rest = ap (command_lines (number + 1) cs) (sym (next_stand o)) in
       let first : command_lines number (commands_from input place left) (stand_of block file offset m)
       ≡ command_lines number (c ∷ cs) (stand_of block file offset m) =
       ap (λ (n : ℕ). command_lines number (commands_from input place n) (stand_of block file offset m)) one
       ∙ ap (λ (z : Command). command_lines number (z ∷ cs) (stand_of block file offset m)) (sym is) in
+      let put = rw (said, followed, links_said r.answer) at p in
       record {
         inside = omega (arith, x.inside);
-        few = omega (arith, x.few);
         ready = next_ready o;
-        size = kept ∙ x.size;
-        going = more x.going (two_lines number d) {rest = rest} (reading (its_lines number o) (p then q))
+        going = more x.going (two_lines number d) {rest = rest} (reading (its_lines number o) (put then q))
             (first ∙ ap (λ (l : List ℕ). two_lines number d ++ l) later);
       }
 
-  pub command_all : left ≤ 0 → Put before now 0 at (command_lines 1 (commands_in input) (at_first input))
+  pub command_all : left ≡ 0 → Put before now 0 at (command_lines 1 (commands_in input) (at_first input))
   unfolding commands_from command_lines
-  command_all out =
-      let none_left : left ≡ 0 = omega arith in
+  command_all none_left =
       putting.done x.going (ap (λ (n : ℕ). command_lines number (commands_from input place n) (stand_of block file offset m)) none_left)

@@ -22,8 +22,8 @@ use Rattle.rules.proofs.Bounds.{most, offer_most, run_narrow}
 use Rattle.rules.proofs.Demands.{accepted_sound}
 use Rattle.rules.proofs.Soundness.Places.{sound_of}
 use Rattle.replay.proofs.Within.{run_within}
-use Rattle.bridge_card.specs.Bits.{bit, number_of, byte_of}
-use Rattle.bridge_card.specs.Card.{is_block, is_pending, thread_of, read_refusal, write_refusal, raise_refusal, read_after, read}
+use Rattle.bits.specs.Bits.{bit, number_of}
+use Rattle.bridge_card.specs.Card.{byte_of, is_block, is_pending, thread_of, read_refusal, write_refusal, raise_refusal, read_after, read}
 use Rattle.bridge_card.specs.Card.{changed_after, written, write, raised, raise, line_to_take, line_cleared, unchanged, block_after}
 use Rattle.bridge_card.specs.Card.{polled_with, poll_if, poll}
 use Rattle.bridge_card.proofs.Waking.{wake_ranged, as_offered}

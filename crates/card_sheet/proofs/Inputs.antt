@@ -5,10 +5,13 @@ use mathlib.Core.Path.{◌≡◌, refl}
 use mathlib.Core.List.{List}
 use lib.ListN.{length, get_or, drop, length-drop}
 use lib.Seq.{length-take-le}
+use Rattle.std.specs.Prelude.{Result, Err}
+use Rattle.rules.specs.declared.refusal.Refusal.{Refusal}
+use Rattle.rules.specs.RefusalNumbers.{number_of, number_in}
 use Rattle.rules.specs.EventFile.{Bytes}
 use Rattle.rules.specs.Key.{file_line}
 use Rattle.replay.proofs.Inputs.{not_short}
-use Rattle.text.proofs.Refused.{refused_line}
+use Rattle.text.proofs.Refused.{refused_answer}
 use Rattle.card_sheet.specs.Sheet.{block_in, count_at, commands_in, file_at, input_refusal, command_lines, at_first, card_after, card}
 
 module _ (input : List ℕ) where
@@ -20,9 +23,10 @@ module _ (input : List ℕ) where
   block_length accepted =
       length-take-le (get_or input 0 0) (drop 1 input) (omega (arith, not_short (file_at input) input accepted, length-drop 1 input))
 
-  pub refused_card : (n : ℕ) → n ≡ input_refusal input → (n ≡ 0 → ⊥) → file_line n ≡ card input
+  pub refused_card : {A : Type 0} {answer : Result A Refusal} {why : Refusal} → number_in answer ≡ input_refusal input
+      → answer ≡ Err why → file_line (number_of why) ≡ card input
   unfolding card
-  refused_card n e h = refused_line (λ k. card_after k input) (λ _. refl) e h
+  refused_card asked is = refused_answer (λ k. card_after k input) (λ _. refl) asked is
 
   pub accepted_card : input_refusal input ≡ 0 → command_lines 1 (commands_in input) (at_first input) ≡ card input
   unfolding card

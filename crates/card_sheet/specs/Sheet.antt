@@ -7,8 +7,7 @@ use Rattle.rules.specs.EventFile.{events_of}
 use Rattle.rules.specs.Key.{bytes, decimal, line, file_line}
 use Rattle.replay.specs.Behind.{refusal_behind}
 use Rattle.replay.specs.Running.{after_run}
-use Rattle.bridge_card.specs.declared.Reading.{Reading}
-use Rattle.bridge_card.specs.Card.{read, Changed, write, raise, Polled, poll}
+use Rattle.bridge_card.specs.Card.{Reading, read, Changed, write, raise, Polled, poll}
 use Rattle.card_sheet.specs.declared.Command.{Command}
 
 -- "a byte n; n bytes, the block"

@@ -7,14 +7,14 @@ use crate::Command;
 use bridge_card::{poll, raise_line, read_register, write_register};
 use dispatcher::Machine;
 use replay::run_events;
+use rules::Refusal;
 
 // The machine, where the next event begins, and what the two lines say.
 #[derive(Clone, Copy)]
 pub(crate) struct Obeyed {
     pub machine: Machine,
     pub offset: usize,
-    pub refusal: u8,
-    pub links: u64,
+    pub answer: Result<u64, Refusal>,
     pub byte: u8,
 }
 
@@ -29,54 +29,46 @@ pub(crate) fn obey(
     ensures { Obeys (done command (stand_of block.old file.now offset machine)) file.now
         block.new result }
 {
-    if command.op == 0 {
-        let reading = read_register(block, command.a);
-        return Obeyed {
+    // The op stays a number: `done`, specs/Sheet.antt, speaks of a `Command` as it is read.
+    match command.op {
+        0 => {
+            let reading = read_register(block, command.a);
+            Obeyed {
+                machine,
+                offset,
+                answer: reading.map(|_| 0),
+                byte: reading.unwrap_or(0),
+            }
+        }
+        1 => Obeyed {
             machine,
             offset,
-            refusal: reading.refusal,
-            links: 0,
-            byte: reading.byte,
-        };
-    }
-    if command.op == 1 {
-        let refusal = write_register(block, command.a, command.b);
-        return Obeyed {
+            answer: write_register(block, command.a, command.b).map(|()| 0),
+            byte: 0,
+        },
+        2 => Obeyed {
             machine,
             offset,
-            refusal,
-            links: 0,
+            answer: raise_line(block, command.a).map(|()| 0),
             byte: 0,
-        };
-    }
-    if command.op == 2 {
-        let refusal = raise_line(block, command.a);
-        return Obeyed {
-            machine,
-            offset,
-            refusal,
-            links: 0,
-            byte: 0,
-        };
-    }
-    if command.op == 3 {
-        let answered = poll(block, machine);
-        let after = answered.machine;
-        return Obeyed {
-            machine: after,
-            offset,
-            refusal: answered.refusal,
-            links: answered.links as u64,
-            byte: 0,
-        };
-    }
-    let ran = run_events(file, offset, machine, command.a);
-    let after = ran.machine;
-    Obeyed {
-        machine: after,
-        offset: ran.offset,
-        refusal: 0,
-        links: ran.links,
-        byte: 0,
+        },
+        3 => {
+            let polled = poll(block, machine);
+            Obeyed {
+                machine: polled.machine,
+                offset,
+                answer: polled.answer.map(u64::from),
+                byte: 0,
+            }
+        }
+        _ => {
+            let ran = run_events(file, offset, machine, command.a);
+            Obeyed {
+                machine: ran.machine,
+                offset: ran.offset,
+                answer: Ok(ran.links),
+                byte: 0,
+            }
+        }
     }
 }

@@ -2,7 +2,7 @@
 // From an input's bytes to the bytes that the program `card` prints: a block of the bridge card, commands, and an event file behind them.
 // Both are defined in specs/Sheet.antt. The two numbers that a program over this crate needs, how much it must read and how much it must
 // write, are fixed here by contracts.
-ghost use Rattle.std.specs.Prelude.{ℕ, ◌<◌, ◌≡◌, List, ◌++◌, length, take, drop};
+ghost use Rattle.std.specs.Prelude.{ℕ, ◌≡◌, List, ◌++◌, length, take, drop};
 ghost use Rattle.rules.specs.EventFile.{Bytes};
 ghost use Rattle.card_sheet.specs.Sheet.{card};
 
@@ -11,8 +11,8 @@ mod lines;
 mod reading;
 
 use lines::put_commands;
-use reading::{copy_block, file_at, input_refusal};
-use text::put_file_line;
+use reading::{check_input, copy_block, file_at};
+use text::{put_file_line, zeros};
 
 // "commands of 3 bytes, op a b"
 #[derive(Clone, Copy)]
@@ -28,12 +28,6 @@ pub const INPUT: usize = 66559;
 // Room for what is printed of every input: `card_fits`, proofs/Room.antt.
 pub const ROOM: usize = 269790;
 
-fn zeros() -> [u8; INPUT]
-    ensures { 66558 < length result }
-{
-    [0; INPUT]
-}
-
 // A buffer for what is read. Of an input of any length it holds enough: what is printed of that much is what is printed of the whole.
 pub fn input() -> [u8; INPUT]
     ensures { (b : List ℕ) → Bytes b → card (take (length result) b) ≡ card b }
@@ -46,11 +40,10 @@ pub fn write_card(input: &[u8], out: &mut [u8; ROOM]) -> usize
     ensures { (result ≡ length (card input.now))
         × (out.new ≡ card input.now ++ drop (length (card input.now)) out.old) }
 {
-    let refusal = input_refusal(input);
-    if refusal != 0 {
-        return put_file_line(out, 0, refusal);
+    if let Err(refusal) = check_input(input) {
+        return put_file_line(out, 0, u8::from(refusal));
     }
-    let mut store: [u8; 255] = [0; 255];
+    let mut store = [0; 255];
     let n = copy_block(input, &mut store);
     let at = file_at(input);
     put_commands(out, input, &input[at..], &mut store[..n])

@@ -7,6 +7,7 @@ ghost use Rattle.card_sheet.specs.Sheet.{input_refusal, file_in, block_in, comma
 use crate::commands::obey;
 use crate::reading::{command_count, command_from, count_at};
 use dispatcher::Machine;
+use rules::Refusal;
 use text::{put_byte, put_decimal, put_key_line};
 
 // "the n bytes of the block, decimal, single spaces", each with its space before it, and the line's end.
@@ -14,11 +15,9 @@ fn put_block(out: &mut [u8], at: usize, block: &[u8]) -> usize
     ensures { Put out.old out.new at result (block_text block.now) }
 {
     let mut place = at;
-    let mut i = 0;
-    while i < block.len() {
+    for &byte in block {
         let space = put_byte(out, place, b' ');
-        place = put_decimal(out, space, block[i] as u64);
-        i += 1;
+        place = put_decimal(out, space, u64::from(byte));
     }
     put_byte(out, place, b'\n')
 }
@@ -27,7 +26,7 @@ fn put_block(out: &mut [u8], at: usize, block: &[u8]) -> usize
 fn put_second(out: &mut [u8], at: usize, byte: u8, block: &[u8]) -> usize
     ensures { Put out.old out.new at result (decimal byte ++ block_text block.now) }
 {
-    let end = put_decimal(out, at, byte as u64);
+    let end = put_decimal(out, at, u64::from(byte));
     put_block(out, end, block)
 }
 
@@ -40,20 +39,22 @@ pub(crate) fn put_commands(out: &mut [u8], input: &[u8], file: &[u8], block: &mu
     let mut machine = Machine::empty();
     let mut offset = 5;
     let mut place = count_at(input) + 1;
-    let mut left = command_count(input);
-    let mut number: u64 = 1;
     let mut at = 0;
-    while 0 < left {
+    for number in 1..=u64::from(command_count(input)) {
         let command = command_from(input, place);
         let done = obey(command, block, file, offset, machine);
         machine = done.machine;
-        let running = machine.running;
-        let second = put_key_line(out, at, number, done.refusal, running, done.links);
+        let second = put_key_line(
+            out,
+            at,
+            number,
+            Refusal::number_in(done.answer),
+            machine.running,
+            done.answer.unwrap_or(0),
+        );
         at = put_second(out, second, done.byte, block);
         offset = done.offset;
         place += 3;
-        left -= 1;
-        number += 1;
     }
     at
 }

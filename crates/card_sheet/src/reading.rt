@@ -1,49 +1,48 @@
 // "a byte n; n bytes, the block; a byte k; k commands of 3 bytes, op a b; the rest is an event file"
 ghost use Rattle.std.specs.Prelude.{◌+◌, ◌≤◌, ◌≡◌, ◌++◌, length, drop};
+ghost use Rattle.rules.specs.RefusalNumbers.{number_in};
 ghost use Rattle.card_sheet.specs.Sheet.{count_at, command_count, command_from, file_at, input_refusal, block_in};
 
 use crate::Command;
 use event_file::byte_at;
-use replay::refusal_behind;
+use replay::check_behind;
+use rules::Refusal;
 use text::put_bytes;
 
 // Where the byte k stands.
 pub(crate) fn count_at(input: &[u8]) -> usize
     ensures { result ≡ count_at input.now }
 {
-    (byte_at(input, 0) as usize) + 1
+    usize::from(byte_at(input, 0)) + 1
 }
 
 pub(crate) fn command_count(input: &[u8]) -> u8
     ensures { result ≡ command_count input.now }
 {
-    let at = count_at(input);
-    byte_at(input, at)
+    byte_at(input, count_at(input))
 }
 
 pub(crate) fn file_at(input: &[u8]) -> usize
     ensures { result ≡ file_at input.now }
 {
-    let at = count_at(input);
-    let count = command_count(input);
-    at + 1 + 3 * (count as usize)
+    count_at(input) + 1 + 3 * usize::from(command_count(input))
 }
 
 pub(crate) fn command_from(input: &[u8], at: usize) -> Command
     requires { at ≤ 65536 }
     ensures { result ≡ command_from input.now at }
 {
-    let op = byte_at(input, at);
-    let a = byte_at(input, at + 1);
-    let b = byte_at(input, at + 2);
-    Command { op, a, b }
+    Command {
+        op: byte_at(input, at),
+        a: byte_at(input, at + 1),
+        b: byte_at(input, at + 2),
+    }
 }
 
-pub(crate) fn input_refusal(input: &[u8]) -> u8
-    ensures { result ≡ input_refusal input.now }
+pub(crate) fn check_input(input: &[u8]) -> Result<(), Refusal>
+    ensures { number_in result ≡ input_refusal input.now }
 {
-    let at = file_at(input);
-    refusal_behind(input, at)
+    check_behind(input, file_at(input))
 }
 
 // The block's bytes, at the front of a buffer with room for the largest.
@@ -52,6 +51,5 @@ pub(crate) fn copy_block(input: &[u8], store: &mut [u8]) -> usize
     ensures { (result ≡ length (block_in input.now))
         × (store.new ≡ block_in input.now ++ drop (length (block_in input.now)) store.old) }
 {
-    let end = count_at(input);
-    put_bytes(store, 0, &input[1..end])
+    put_bytes(store, 0, &input[1..count_at(input)])
 }

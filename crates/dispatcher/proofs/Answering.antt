@@ -1,24 +1,60 @@
 -- The answer of an event: refused, or accepted and settled.
-use Prim.Native.Nat.{ℕ, suc}
+use Prim.Native.Nat.{ℕ, suc, ◌-◌}
 use mathlib.Core.Path.{◌≡◌, refl, sym, ◌∙◌, subst}
 use mathlib.Core.Bool.{true}
+use Rattle.std.specs.Prelude.{Ok, Err}
 use Rattle.rules.specs.declared.Event.{Event}
+use Rattle.rules.specs.declared.refusal.Refusal.{Refusal}
+use Rattle.rules.specs.declared.refusal.Refusal.TheVariants.{Unsound, AboveLimit, InUse, NotLive, NothingRuns, NotAServer}
+use Rattle.rules.specs.declared.refusal.Refusal.TheVariants.{Itself, RunsAClient, NotBlocked, NotLinked, BadCharge, NoQuantum}
+use Rattle.rules.specs.declared.refusal.Refusal.TheVariants.{OwnsOne, BadLength, BadVersion, BadRecord, NoRoom, NotSpent}
+use Rattle.rules.specs.declared.refusal.Refusal.TheVariants.{NoSuchEvent, BadBlock, NoSuchRegister, NoLine, BadRow, Overlap}
+use Rattle.rules.specs.declared.refusal.Refusal.TheVariants.{Gap, NeverRefused, NotAboveHeld}
+use Rattle.rules.specs.RefusalNumbers.{number_of}
 use Rattle.rules.specs.State.{State, forget}
 use Rattle.rules.specs.Refusals.{refusal}
 use Rattle.rules.specs.Choice.{choose}
 use Rattle.rules.specs.Events.{Midway, midway, settle, dispatch, dispatch_after}
 use Rattle.dispatcher.specs.declared.Machine.{Machine}
-use Rattle.dispatcher.specs.declared.Answered.{Answered}
 use Rattle.dispatcher.specs.Shown.{shown, stored, sound_machine}
 use Rattle.dispatcher.specs.Choosing.{Settled, Chosen}
-use Rattle.dispatcher.specs.Promise.{Answers}
+use Rattle.dispatcher.specs.Promise.{Answered, Answers, answered}
 use Rattle.dispatcher.proofs.Stored.{sound_stored}
 
+-- no refusal has the number 0, which is an accepted event's
+pub numbered : (x : Refusal) → number_of x ≡ suc (number_of x - 1)
+numbered Unsound = refl
+numbered AboveLimit = refl
+numbered InUse = refl
+numbered NotLive = refl
+numbered NothingRuns = refl
+numbered NotAServer = refl
+numbered Itself = refl
+numbered RunsAClient = refl
+numbered NotBlocked = refl
+numbered NotLinked = refl
+numbered BadCharge = refl
+numbered NoQuantum = refl
+numbered OwnsOne = refl
+numbered BadLength = refl
+numbered BadVersion = refl
+numbered BadRecord = refl
+numbered NoRoom = refl
+numbered NotSpent = refl
+numbered NoSuchEvent = refl
+numbered BadBlock = refl
+numbered NoSuchRegister = refl
+numbered NoLine = refl
+numbered BadRow = refl
+numbered Overlap = refl
+numbered Gap = refl
+numbered NeverRefused = refl
+numbered NotAboveHeld = refl
+
 module _ (e : Event) (m : Machine) where
-  pub refuse : {n : ℕ} {r : Answered} → r ≡ record { machine = m; refusal = suc n; links = 0 } → refusal e (forget (shown m)) ≡ suc n
-      → Answers (dispatch e (shown m)) m r
+  pub refuse : (x : Refusal) → refusal e (forget (shown m)) ≡ number_of x → Answers (dispatch e (shown m)) m (answered m (Err x))
   unfolding dispatch
-  refuse is h = rw (is, h) (record { refusal = refl; links = refl; state = refl; exact = refl; kept = λ _. refl })
+  refuse x h = rw (h, numbered x) (record { refusal = refl; links = refl; state = refl; exact = refl; kept = λ _. refl })
 
   pub accept : sound_machine m ≡ true → refusal e (forget (shown m)) ≡ 0 → (w : Midway) → w ≡ midway e (shown m) → (r : Answered)
       → Settled (settle w) r
@@ -37,9 +73,8 @@ module _ (e : Event) (m : Machine) where
       })
 
 -- no choice
-pub stands : {m : Machine} {s : State} {r : Answered} → r ≡ record { machine = m; refusal = 0; links = 0 } → shown m ≡ s → stored m ≡ true
-    → Settled (record { state = s; links = 0 }) r
-stands is e exact = rw is (record { refusal = refl; links = refl; state = e; exact = exact })
+pub stands : {m : Machine} {s : State} → shown m ≡ s → stored m ≡ true → Settled (record { state = s; links = 0 }) (answered m (Ok 0))
+stands e exact = record { refusal = refl; links = refl; state = e; exact = exact }
 
 -- a choice from the machine that shows this state
 pub chosen : (m : Machine) (links : ℕ) (s : State) (r : Answered) → shown m ≡ s → Chosen m links r

@@ -7,7 +7,7 @@ use mathlib.Core.Bool.{Bool, true, false, cond}
 use mathlib.Core.Option.{none, some}
 use native.Mathlib.Omega.{arith}
 use lib.ListN.{length, get_or, set, take, length-map}
-use lib.Seq.{map-set_same, set_out}
+use lib.Seq.{map-set_same}
 use types.Run.{OneOf}
 use denote.Enum.Declared.{tag_of}
 use Rattle.rules.specs.declared.Hold.{Hold}
@@ -19,7 +19,7 @@ use Rattle.rules.specs.declared.Timeslice.{Timeslice}
 use Rattle.rules.specs.declared.Running.{Running}
 use Rattle.rules.specs.declared.Running.TheVariants.{Nothing, Runs}
 use Rattle.rules.specs.State.{State, owner_at, hold_at, live_thread_count, with_places, with_running}
-use Rattle.rules.specs.Walk.{walk, chain_of, at_end, verdict, Verdict, runs, stalls}
+use Rattle.rules.specs.Walk.{walk, walk_from, no_links, chain_of, at_end, verdict, Verdict, runs, stalls}
 use Rattle.rules.specs.Threads.{donate}
 use Rattle.rules.specs.Release.{in_queue, behind, topmost_at, released_places, release}
 use Rattle.rules.specs.Choice.{Outcome, park, retry, decide, look, choose_from, choose}
@@ -28,8 +28,8 @@ use Rattle.neighbours.specs.Sides.{Sides}
 use Rattle.neighbours.specs.Reading.{turns_read}
 use Rattle.tables.specs.Timeslices.{with_place, slice_of, place_of, free_timeslice}
 use Rattle.dispatcher.specs.Shown.{sides_of, shown, stored}
-use Rattle.tables.specs.declared.order.Sought.{Sought}
-use Rattle.tables.specs.declared.order.Sought.TheVariants.{At, Nothing as None}
+use Rattle.std.specs.Prelude as std
+use Rattle.std.specs.Prelude.{Some, None, Ok}
 use Rattle.tables.specs.declared.ends.Verdict.{Verdict as Said}
 use Rattle.tables.specs.declared.ends.Verdict.TheVariants.{Runs as RunsNow, Retries, Waits, Stalls}
 use Rattle.tables.specs.Sets.{set_of, sought_of}
@@ -37,16 +37,18 @@ use Rattle.timeslices.specs.Releasing.{places_after, Replaced}
 use Rattle.tables.specs.Turning.{entries_of}
 use Rattle.timeslices.specs.Codes.{code_of, top_of, highest, parked_code, Recoded, Coded}
 use Rattle.tables.specs.Verdicts.{verdict_of}
+use Rattle.dispatcher.specs.Promise.{answered}
 use Rattle.dispatcher.specs.Choosing.{aside_of, freed_by, Choosable, before, Chosen}
 use Rattle.tables.specs.contracts.ends.Verdict.{the_type}
-use Rattle.tables.proofs.Lookups.{map-set}
+use Rattle.tables.proofs.Lookups.{map-set, owns}
+use Rattle.tables.proofs.Walks.{walks}
 use Rattle.rules.proofs.Bounds.{live_most}
 use Rattle.rules.proofs.Links.Chains.{walk_links}
 use Rattle.timeslices.proofs.ReleaseLoop.{release_is}
 use Rattle.timeslices.proofs.Searches.{top_is}
 use Rattle.timeslices.proofs.Recodings.{Freed, park_coded}
 use Rattle.rules.proofs.Tables.Writes.{donate_relabels}
-use Rattle.dispatcher.proofs.Stored.{live_is, turns_fit, turns_many, stored_with}
+use Rattle.dispatcher.proofs.Stored.{live_is, turns_fit, turns_many, stored_with, topmost_fits}
 
 -- what a look finds: the topmost timeslice in Queue, its chain and what its end says
 pub record Look (s : State) (t : ℕ) (c : Chain) (v : Verdict) : Type 0 where
@@ -54,14 +56,15 @@ pub record Look (s : State) (t : ℕ) (c : Chain) (v : Verdict) : Type 0 where
   pub chain : c ≡ chain_of s.threads s.slices t
   pub says : v ≡ verdict s.threads c
 
-pub looked : (s : State) (f : Sought) (t owner : ℕ) (c : Chain) (h : Hold) (said v : Said) → sought_of f ≡ topmost_at in_queue s → f ≡ At t
+looked : (s : State) (f : std.Option ℕ) (t owner : ℕ) (c : Chain) (h : Hold) (v : Said)
+    → sought_of f ≡ topmost_at in_queue s → f ≡ Some t
     → owner ≡ owner_at s.slices t → c ≡ walk s.threads owner → h ≡ hold_at s.threads c.end
-    → verdict_of said ≡ cond c.looped stalls (at_end h c.links) → said ≡ v → Look s t c (verdict_of v)
-looked s f t owner c h said v e at owns walks hold judged is =
+    → verdict_of v ≡ cond c.looped stalls (at_end h c.links) → Look s t c (verdict_of v)
+looked s f t owner c h v e at owns walks hold judged =
     record {
       top = sym e ∙ ap sought_of at;
       chain = walks ∙ ap (walk s.threads) owns;
-      says = sym (ap verdict_of is) ∙ judged ∙ ap (λ (g : Hold). cond c.looped stalls (at_end g c.links)) hold;
+      says = judged ∙ ap (λ (g : Hold). cond c.looped stalls (at_end g c.links)) hold;
     }
 
 -- one look, by what it finds
@@ -107,6 +110,19 @@ tables_to ths ts m =
       running = m.running;
     }
 
+-- and with another running thread
+abbrev pub runs_to : Running → Machine → Machine
+runs_to r m =
+    record {
+      threads = m.threads;
+      timeslices = m.timeslices;
+      before = m.before;
+      after = m.after;
+      live_threads = m.live_threads;
+      live_timeslices = m.live_timeslices;
+      running = r;
+    }
+
 -- the timeslices at other places show the state with those places
 replaced_shown : (m : Machine) (live : ℕ) (order : List ℕ) (ps : List Place) (ts : List Timeslice) → Replaced m.timeslices ps ts
     → state_of (tables_to m.threads ts m) live order ≡ with_places ps (state_of m live order)
@@ -137,16 +153,6 @@ module _ (m : Machine) (live : ℕ) (order codes heights : List ℕ) (r : Coded 
               places = map-set place_of m.timeslices k y ∙ ap (λ (j : ℕ). set (map place_of m.timeslices) j p) e;
             };
         coded = park_coded m.timeslices order live codes parked heights k t c p full r e inside coded ch;
-      })
-
-  -- where t is no timeslice's number, nothing is put anywhere
-  pub none_aside : 128 ≤ k → n ≡ m → after ≡ codes → Aside m live order t p n after heights
-  none_aside past is kept =
-      rw (is, kept)
-      (record {
-        others = refl;
-        placed = record { slices = refl; places = sym (set_out (map place_of m.timeslices) t p (rw length-map (omega arith))) };
-        coded = r;
       })
 
 -- a timeslice that waits or whose chain is a loop is put aside
@@ -223,12 +229,11 @@ module _ (m : Machine) (live : ℕ) (order codes heights : List ℕ) (r : Coded 
       }
 
 -- the loop, with so many looks left
-pub record Choosing (first : Machine) (start live lives : ℕ) (order : List ℕ) (m : Machine) (links looks : ℕ) (codes heights : List ℕ) :
+pub record Choosing (first : Machine) (start live : ℕ) (order : List ℕ) (m : Machine) (links looks : ℕ) (codes heights : List ℕ) :
     Type 0 where
   pub exact : stored m ≡ true
   pub turns : take live order ≡ turns_read m.after live
   pub turned : m.live_timeslices ≡ live
-  pub counted : m.live_threads ≡ lives
   pub fits : live ≤ 128
   pub entries : length order ≡ 128
   pub threads : length m.threads ≡ 128
@@ -241,7 +246,7 @@ pub begin : (m : Machine) (links looks : ℕ) (codes heights : List ℕ) → Cho
     → length m.timeslices ≡ 128 → looks ≡ m.live_timeslices + 2
     → (order : List ℕ) → length order ≡ 128 → take m.live_timeslices order ≡ (shown m).order
     → Coded m.timeslices order m.live_timeslices codes heights
-    → Choosing m links m.live_timeslices m.live_threads order m links looks codes heights
+    → Choosing m links m.live_timeslices order m links looks codes heights
 unfolding choose
 begin m links looks codes heights c ths ts e order full laid r =
     let fits = turns_fit m c.exact in
@@ -250,7 +255,6 @@ begin m links looks codes heights c ths ts e order full laid r =
       exact = c.exact;
       turns = laid;
       turned = refl;
-      counted = refl;
       fits = fits;
       entries = full;
       threads = ths;
@@ -260,60 +264,41 @@ begin m links looks codes heights c ths ts e order full laid r =
       rest = rw laid (ap (λ (k : ℕ). choose_from k (before m links)) two);
     }
 
-module _ (first : Machine) (start live lives : ℕ) (order : List ℕ) (m : Machine) (links looks : ℕ) (codes heights : List ℕ)
-    (w : Choosing first start live lives order m links looks codes heights) where
-  -- L as the walk asks it
-  pub lives_are : lives ≡ live_thread_count m.threads
-  lives_are = sym w.counted ∙ live_is m w.exact
-
+module _ (first : Machine) (start live : ℕ) (order : List ℕ) (m : Machine) (links looks : ℕ) (codes heights : List ℕ)
+    (w : Choosing first start live order m links looks codes heights) where
   -- the timeslice of the highest height in Queue, whose code is 0
-  pub tops_queue : (f : Sought) → sought_of f ≡ top_of order (highest 0 codes heights 0 (entries_of live))
+  pub tops_queue : (f : std.Option ℕ) → sought_of f ≡ top_of order (highest 0 codes heights 0 (entries_of live))
       → sought_of f ≡ topmost_at in_queue (state_of m live order)
   tops_queue f e = e ∙ top_is m.timeslices order live codes heights w.entries w.coded Queue
 
+  -- the topmost one is in the table
+  pub looks_within : (f : std.Option ℕ) (t : ℕ) → sought_of f ≡ top_of order (highest 0 codes heights 0 (entries_of live)) → f ≡ Some t
+      → t < 128
+  looks_within f t e at =
+      topmost_fits m w.exact in_queue t (rw (w.turned, ← w.turns) (sym (tops_queue f e) ∙ ap sought_of at))
+
+  -- the look at the topmost one: the walk from its owner, and what the chain's end says
+  pub looks_up : (f : std.Option ℕ) (k t : ℕ) (c : Chain) (h : Hold) (v : Said)
+      → sought_of f ≡ top_of order (highest 0 codes heights 0 (entries_of live)) → f ≡ Some t → k ≡ t
+      → c ≡ walk_from m.live_threads m.threads (get_or m.timeslices k free_timeslice).owner no_links → h ≡ hold_at m.threads c.end
+      → verdict_of v ≡ cond c.looped stalls (at_end h c.links) → Look (state_of m live order) t c (verdict_of v)
+  looks_up f k t c h v e at is walked held judged =
+      let owner = (get_or m.timeslices k free_timeslice).owner in
+      looked (state_of m live order) f t owner c h v (tops_queue f e) at (owns m.timeslices k t owner is refl)
+      (walks m.threads m.live_threads owner c (live_is m w.exact) walked) held judged
+
   shows : (r : Running)
-      → shown (record {
-        threads = m.threads;
-        timeslices = m.timeslices;
-        before = m.before;
-        after = m.after;
-        live_threads = m.live_threads;
-        live_timeslices = m.live_timeslices;
-        running = r;
-      })
-      ≡ with_running r (state_of m live order)
+      → shown (runs_to r m) ≡ with_running r (state_of m live order)
   shows r = rw (w.turned, w.turns) refl
 
   running_exact : (r : Running)
-      → stored (record {
-        threads = m.threads;
-        timeslices = m.timeslices;
-        before = m.before;
-        after = m.after;
-        live_threads = m.live_threads;
-        live_timeslices = m.live_timeslices;
-        running = r;
-      })
-      ≡ true
+      → stored (runs_to r m) ≡ true
   running_exact r = stored_with m w.exact _ refl refl (live_is m w.exact)
 
   -- the choice ends with this running thread, or with none
   pub ends : (r : Running) (k : ℕ) → record { state = with_running r (state_of m live order); links = k } ≡ choose_from looks
       (record { state = state_of m live order; links = links })
-      → Chosen first start (record {
-        machine = record {
-          threads = m.threads;
-          timeslices = m.timeslices;
-          before = m.before;
-          after = m.after;
-          live_threads =
-              m.live_threads;
-          live_timeslices = m.live_timeslices;
-          running = r;
-        };
-        refusal = 0;
-        links = k;
-      })
+      → Chosen first start (answered (runs_to r m) (Ok k))
   ends r k e =
       let o : record { state = with_running r (state_of m live order); links = k } ≡ choose (before first start) = e ∙ w.rest in
       record {
@@ -324,77 +309,49 @@ module _ (first : Machine) (start live lives : ℕ) (order : List ℕ) (m : Mach
       }
 
   -- no look is left
-  pub out : looks ≤ 0 → Chosen first start (record { machine = m; refusal = 0; links = links })
+  pub out : looks ≤ 0 → Chosen first start (answered m (Ok links))
   unfolding choose_from
   out spent =
       let z : looks ≡ 0 = omega arith in
       ends m.running links (rw z refl)
 
   -- the next look, from a machine with the same turn order and live threads
-  pub again : (n : Machine) (after : List ℕ) (k t : ℕ) (c : Chain) (v : Verdict) (s : State)
+  pub again : (left : ℕ) → looks ≡ suc left → (n : Machine) (after : List ℕ) (k t : ℕ) (c : Chain) (v : Verdict) (s : State)
       → sides_of n ≡ sides_of m → n.live_timeslices ≡ m.live_timeslices → n.live_threads ≡ m.live_threads
       → live_thread_count n.threads ≡ live_thread_count m.threads → length n.threads ≡ length m.threads → length n.timeslices ≡ length
       m.timeslices
-      → Coded n.timeslices order live after heights → 0 < looks → k ≡ links + c.links → Look (state_of m live order) t c v → state_of n
+      → Coded n.timeslices order live after heights → k ≡ links + c.links → Look (state_of m live order) t c v → state_of n
       live order ≡ s
-      → decide (λ u. choose_from (looks - 1) u) links (state_of m live order) t c v ≡ choose_from (looks - 1)
+      → decide (λ u. choose_from left u) links (state_of m live order) t c v ≡ choose_from left
       (record { state = s; links = links + c.links })
-      → Choosing first start live lives order n k (looks - 1) after heights
-  again n after k t c v s o tn ln lv lths lts r left e l shows' step =
-      let one : looks ≡ suc (looks - 1) = omega arith in
+      → Choosing first start live order n k left after heights
+  again left one n after k t c v s o tn ln lv lths lts r e l shows' step =
       let most : c.links ≤ live_thread_count m.threads = rw l.chain (walk_links m.threads (owner_at (map slice_of m.timeslices) t)) in
-      let rest' : choose_from (suc (looks - 1)) (record { state = state_of m live order; links = links }) ≡ choose (before first start) =
+      let rest' : choose_from (suc left) (record { state = state_of m live order; links = links }) ≡ choose (before first start) =
       rw one at w.rest in
       record {
         exact = stored_with m w.exact n o tn (ln ∙ live_is m w.exact ∙ sym lv);
         turns = w.turns ∙ ap (λ (s : Sides). turns_read s.after live) (sym o);
         turned = tn ∙ w.turned;
-        counted = ln ∙ w.counted;
         fits = w.fits;
         entries = w.entries;
         threads = lths ∙ w.threads;
         timeslices = lts ∙ w.timeslices;
         coded = r;
-        few = omega (arith, w.few, live_most m.threads, w.threads);
-        rest = rw (e, shows') (sym step ∙ looks_at (looks - 1) links (state_of m live order) t c v l ∙ rest');
+        few = omega (arith, one, w.few, live_most m.threads, w.threads);
+        rest = rw (e, shows') (sym step ∙ looks_at left links (state_of m live order) t c v l ∙ rest');
       }
 
   -- the look's timeslice runs
   pub runs_at : (t k : ℕ) (c : Chain) → 0 < looks → k ≡ links + c.links → Look (state_of m live order) t c runs
-      → Chosen first start (record {
-        machine = record {
-          threads = m.threads;
-          timeslices = m.timeslices;
-          before = m.before;
-          after = m.after;
-          live_threads =
-              m.live_threads;
-          live_timeslices = m.live_timeslices;
-          running = Runs c.end t c.count;
-        };
-        refusal = 0;
-        links = k;
-      })
+      → Chosen first start (answered (runs_to (Runs c.end t c.count) m) (Ok k))
   runs_at t k c left e l =
       let one : looks ≡ suc (looks - 1) = omega arith in
       ends (Runs c.end t c.count) k (rw (e, one) (looks_at (looks - 1) links (state_of m live order) t c runs l))
 
   -- Queue is empty
-  pub runs_none : (f : Sought) → 0 < looks → sought_of f ≡ topmost_at in_queue (state_of m live order) → f ≡ None
-      → Chosen first start (record {
-        machine = record {
-          threads = m.threads;
-          timeslices = m.timeslices;
-          before = m.before;
-          after = m.after;
-          live_threads =
-              m.live_threads;
-          live_timeslices = m.live_timeslices;
-          running = Nothing;
-        };
-        refusal = 0;
-        links = links;
-      })
+  pub runs_none : (f : std.Option ℕ) → 0 < looks → sought_of f ≡ topmost_at in_queue (state_of m live order) → f ≡ None
+      → Chosen first start (answered (runs_to Nothing m) (Ok links))
   runs_none f left e is =
       let one : looks ≡ suc (looks - 1) = omega arith in
       ends Nothing links (rw one (looks_empty (looks - 1) links (state_of m live order) (sym e ∙ ap sought_of is)))
@@ -410,18 +367,18 @@ module _ (first : Machine) (start live lives : ℕ) (order : List ℕ) (m : Mach
       subst (λ (l : List ℕ). Replaced n.timeslices (released_places at q l (map place_of n.timeslices)) us) same r
 
   -- it does not run yet: a set is released, and the choice goes on
-  pub goes_on : (t k : ℕ) (c : Chain) (v : Said) (n : Machine) (coded after : List ℕ) (us : List Timeslice) → 0 < looks
+  pub goes_on : (left : ℕ) → looks ≡ suc left → (t k : ℕ) (c : Chain) (v : Said) (n : Machine) (coded after : List ℕ) (us : List Timeslice)
       → k ≡ links + c.links
       → Look (state_of m live order) t c (verdict_of v) → Unreleased m live order t c v n coded heights
       → Freed (freed_by v t c.end) n.timeslices order live us after heights
-      → Choosing first start live lives order (tables_to n.threads us n) k (looks - 1) after heights
-  goes_on t k c v n coded after us left e l u f =
+      → Choosing first start live order (tables_to n.threads us n) k left after heights
+  goes_on left one t k c v n coded after us e l u f =
       let at = set_of (freed_by v t c.end) in
       let s = state_of n live order in
       let shows : state_of (tables_to n.threads us n) live order ≡ release at s =
       replaced_shown n live order (places_after at s.slices s.order s.places) us f.replaced ∙ sym (release_is at s) in
-      again (tables_to n.threads us n) after k t c (verdict_of v) (release at s)
+      again left one (tables_to n.threads us n) after k t c (verdict_of v) (release at s)
       (ap sides_of u.others) (ap (λ (o : Machine). o.live_timeslices) u.others)
       (ap (λ (o : Machine). o.live_threads) u.others)
-      u.lives u.size (as_many n.timeslices us _ f.replaced ∙ u.many) f.coded left e l shows
-      (u.next (λ o. choose_from (looks - 1) o) links)
+      u.lives u.size (as_many n.timeslices us _ f.replaced ∙ u.many) f.coded e l shows
+      (u.next (λ o. choose_from left o) links)

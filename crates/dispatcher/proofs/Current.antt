@@ -20,3 +20,6 @@ module _ (s : State) (n t count : ℕ) (ok : sound s ≡ true) (e : s.running �
 
   pub count_fits : count ≤ 128
   count_fits = omega (arith, (running_most s (sound_of s ok) n t count e).2, sound_live_most s (sound_of s ok))
+
+  pub running_fits : n < 128
+  running_fits = (running_most s (sound_of s ok) n t count e).0

@@ -17,9 +17,8 @@ use Rattle.rules.proofs.Soundness.Places.{sound_of}
 use Rattle.rules.proofs.Events.Hands.{link_limit}
 use Rattle.rules.proofs.Agreement.{answered_number, agrees}
 use Rattle.dispatcher.specs.declared.Machine.{Machine}
-use Rattle.dispatcher.specs.declared.Answered.{Answered}
 use Rattle.dispatcher.specs.Shown.{shown, stored, sound_machine, empty_machine}
-use Rattle.dispatcher.specs.Promise.{Answers}
+use Rattle.dispatcher.specs.Promise.{Answered, Answers}
 use Rattle.dispatcher.proofs.Stored.{sound_stored, sound_shown}
 use Rattle.dispatcher.proofs.OneForm.{one_form}
 use Rattle.dispatcher.proofs.Runs.{answer_to, as_offered, Runs, stops, steps, answered_sound, empty_shown, empty_machine_sound}

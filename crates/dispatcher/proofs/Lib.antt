@@ -4,10 +4,11 @@ pub mod Stored
 pub mod ChoiceLoop
 pub mod Settles
 pub mod Answering
+pub mod Refusing
+pub mod Offering
 pub mod ThreadChanges
 pub mod Current
 pub mod TimesliceChanges
-pub mod Offering
 pub mod OneForm
 pub mod Runs
 pub mod Demands

@@ -17,9 +17,8 @@ use Rattle.neighbours.specs.Sides.{neighbour}
 use Rattle.neighbours.specs.Reading.{turns_from}
 use Rattle.neighbours.specs.Forming.{leads_back}
 use Rattle.dispatcher.specs.declared.Machine.{Machine}
-use Rattle.dispatcher.specs.declared.Answered.{Answered}
 use Rattle.dispatcher.specs.Shown.{shown, stored, sound_machine, empty_machine}
-use Rattle.dispatcher.specs.Promise.{Answers}
+use Rattle.dispatcher.specs.Promise.{Answered, Answers}
 use Rattle.dispatcher.proofs.Stored.{sound_stored, sound_shown}
 use Rattle.dispatcher.proofs.OneForm.{one_form}
 

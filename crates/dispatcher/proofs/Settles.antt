@@ -1,12 +1,12 @@
 -- What an event settles on: a choice, or the machine as it stands.
-use Prim.Native.Nat.{ℕ, ◌≤◌}
+use Prim.Native.Nat.{ℕ}
 use mathlib.Core.Path.{◌≡◌, refl, sym, ◌∙◌, ap, ap₂, subst}
 use mathlib.Core.List.{List, map}
-use mathlib.Core.Bool.{Bool, true, false}
+use mathlib.Core.Bool.{true}
 use mathlib.Core.Option.{none, some}
-use native.Mathlib.Omega.{arith}
-use lib.ListN.{length, get_or, set, length-map}
-use lib.Seq.{map-set_same, set_out}
+use lib.ListN.{length, get_or, set}
+use lib.Seq.{map-set_same}
+use Rattle.std.specs.Prelude.{Ok}
 use Rattle.rules.specs.declared.Place.TheVariants.{Queue}
 use Rattle.rules.specs.declared.Timeslice.{Timeslice}
 use Rattle.rules.specs.Tests.{filter}
@@ -15,10 +15,10 @@ use Rattle.rules.specs.declared.Running.TheVariants.{Nothing, Runs}
 use Rattle.rules.specs.State.{State, place_at}
 use Rattle.rules.specs.Order.{stands_above}
 use Rattle.rules.specs.Release.{on_thread, topmost_at, released_places, release, release_to}
-use Rattle.rules.specs.Choice.{Outcome, choose}
+use Rattle.rules.specs.Choice.{Outcome}
 use Rattle.rules.specs.Events.{above_running, overtakes, releases, settle_if, settle}
 use Rattle.dispatcher.specs.declared.Machine.{Machine}
-use Rattle.dispatcher.specs.declared.Answered.{Answered}
+use Rattle.dispatcher.specs.Promise.{Answered, answered}
 use Rattle.tables.specs.Timeslices.{with_place, slice_of, place_of, free_timeslice}
 use Rattle.tables.proofs.Lookups.{map-set}
 use Rattle.timeslices.proofs.Alone.{one_released}
@@ -27,34 +27,17 @@ use Rattle.timeslices.specs.Releasing.{Replaced}
 use Rattle.dispatcher.specs.Choosing.{Choosable, before, Settled}
 use Rattle.dispatcher.proofs.Stored.{live_is, stored_with}
 
--- with a choice, and without
-pub chose : (b : Bool) (o : Outcome) (r : Answered) → b ≡ true → Settled (choose o) r → Settled (settle_if b o) r
-chose b o r e s = rw e s
-
-pub stayed : (b : Bool) (m : Machine) (r : Answered) → r ≡ record { machine = m; refusal = 0; links = 0 } → b ≡ false → stored m ≡ true
-    → Settled (settle_if b (before m 0)) r
-stayed b m r is e exact = rw (is, e) (record { refusal = refl; links = refl; state = refl; exact = exact })
-
--- a timeslice that joined Queue overtakes, by what runs
-pub over_nothing : (m : Machine) (q : ℕ) → m.running ≡ Nothing → overtakes (shown m) (some q) ≡ true
-over_nothing m q e = ap (above_running (shown m) q) e
-
-pub over_running : (m : Machine) (q n t count : ℕ) (b b' : Bool) → m.running ≡ Runs n t count
-    → b ≡ stands_above (shown m).slices (shown m).order q t → b ≡ b'
-    → overtakes (shown m) (some q) ≡ b'
-over_running m q n t count b b' e is says = ap (above_running (shown m) q) e ∙ sym is ∙ says
-
--- it does so by the timeslices without their places
+-- a timeslice that joined Queue overtakes by the timeslices without their places
 over_same : (s u : State) (q : ℕ) (r : Running) → s.slices ≡ u.slices → s.order ≡ u.order → above_running s q r ≡ above_running u q r
 over_same s u q Nothing a b = refl
 over_same s u q (Runs n t count) a b = ap₂ (λ ss order. stands_above ss order q t) a b
 
 -- nobody was On the thread
-pub none_released : (n : ℕ) (m : Machine) (r : Answered) → r ≡ record { machine = m; refusal = 0; links = 0 }
-    → topmost_at (on_thread n) (shown m) ≡ none → stored m ≡ true → Settled (settle (releases n (shown m))) r
+pub none_released : (n : ℕ) (m : Machine) → topmost_at (on_thread n) (shown m) ≡ none → stored m ≡ true
+    → Settled (settle (releases n (shown m))) (answered m (Ok 0))
 unfolding releases release
-none_released n m r so top exact =
-    rw (so, top) (record { refusal = refl; links = refl; state = refl; exact = exact })
+none_released n m top exact =
+    rw top (record { refusal = refl; links = refl; state = refl; exact = exact })
 
 -- other timeslices
 abbrev pub timeslices_to : List Timeslice → Machine → Machine
@@ -69,44 +52,21 @@ timeslices_to ts m =
       running = m.running;
     }
 
--- the one timeslice that was On the thread goes to Queue, in the machine as it is stored now
-pub record Alone (n : ℕ) (m : Machine) (q : ℕ) (now : Machine) : Type 0 where
-  pub others : now ≡ timeslices_to now.timeslices m
-  pub placed : Replaced m.timeslices (released_places (on_thread n) q (shown m).order (map place_of m.timeslices)) now.timeslices
-
-module _ (n : ℕ) (m : Machine) (q k : ℕ) (now : Machine) (at : k ≡ q) (top : topmost_at (on_thread n) (shown m) ≡ some q)
+-- the one timeslice that was On the thread goes to Queue where it is stored
+module _ (n : ℕ) (m : Machine) (q k : ℕ) (at : k ≡ q) (top : topmost_at (on_thread n) (shown m) ≡ some q)
     (one : length (filter (λ t. on_thread n (place_at (shown m).places t)) (shown m).order) ≡ 1) where
-  moves : released_places (on_thread n) q (shown m).order (map place_of m.timeslices) ≡ set (map place_of m.timeslices) q Queue
-  moves = one_released (on_thread n) (shown m).slices (shown m).places (shown m).order q top one
-
-  pub alone_moved : now ≡ timeslices_to (set m.timeslices k (with_place Queue (get_or m.timeslices k free_timeslice))) m → Alone n m q now
-  alone_moved is =
+  pub alone_moved :
+      Replaced m.timeslices (released_places (on_thread n) q (shown m).order (map place_of m.timeslices))
+      (set m.timeslices k (with_place Queue (get_or m.timeslices k free_timeslice)))
+  alone_moved =
       let y = with_place Queue (get_or m.timeslices k free_timeslice) in
-      rw is
-      (record {
-        others = refl;
-        placed =
-            record {
-              slices = map-set_same slice_of m.timeslices k y free_timeslice refl;
-              places =
-                  map-set place_of m.timeslices k y
-                  ∙ ap (λ (j : ℕ). set (map place_of m.timeslices) j Queue) at
-                  ∙ sym moves;
-            };
-      })
-
-  -- past the end of the table nothing is stored
-  pub alone_past : length m.timeslices ≡ 128 → 128 ≤ k → now ≡ m → Alone n m q now
-  alone_past full past is =
-      rw is
-      (record {
-        others = refl;
-        placed =
-            record {
-              slices = refl;
-              places = sym (moves ∙ set_out (map place_of m.timeslices) q Queue (rw length-map (omega arith)));
-            };
-      })
+      record {
+        slices = map-set_same slice_of m.timeslices k y free_timeslice refl;
+        places =
+            map-set place_of m.timeslices k y
+            ∙ ap (λ (j : ℕ). set (map place_of m.timeslices) j Queue) at
+            ∙ sym (one_released (on_thread n) (shown m).slices (shown m).places (shown m).order q top one);
+      }
 
 -- the topmost one joined Queue
 module _ (n : ℕ) (m : Machine) (q : ℕ) (ts : List Timeslice) (top : topmost_at (on_thread n) (shown m) ≡ some q)
@@ -140,12 +100,3 @@ module _ (n : ℕ) (m : Machine) (q : ℕ) (ts : List Timeslice) (top : topmost_
         let over : overtakes (shown freed) (some q) ≡ overtakes (shown m) (topmost_at (on_thread n) (shown m)) =
         over_same (shown freed) (shown m) q m.running r.slices refl ∙ ap (overtakes (shown m)) (sym top) in
         subst (λ (o : Outcome). Settled o a) (ap₂ (λ b u. settle_if b (record { state = u; links = 0 })) over shows) s
-
--- the one that was On the thread joined Queue
-pub alone_settled : (n : ℕ) (m : Machine) (q : ℕ) (now : Machine) → topmost_at (on_thread n) (shown m) ≡ some q → Alone n m q now
-    → (a : Answered)
-    → Settled (settle_if (overtakes (shown now) (some q)) (before now 0)) a
-    → Settled (settle (releases n (shown m))) a
-alone_settled n m q now top l a s =
-    first_released n m q now.timeslices top l.placed a
-    (subst (λ (o : Machine). Settled (settle_if (overtakes (shown o) (some q)) (before o 0)) a) l.others s)

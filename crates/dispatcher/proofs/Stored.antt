@@ -3,12 +3,17 @@ use Prim.Native.Nat.{ℕ, ◌≤◌, ◌<◌}
 use mathlib.Core.Path.{◌≡◌, sym, ◌∙◌, ap, ap₂, subst}
 use mathlib.Core.List.{List}
 use mathlib.Core.Bool.{Bool, true}
+use mathlib.Core.Option.{some}
 use lib.ListN.{length, take}
-use lib.Dec.{eqb}
-use borrow.Author.Tests.{eqb-true, eq-eqb}
+use lib.Dec.{eqb, ltb}
+use borrow.Author.Tests.{eqb-true, eq-eqb, ltb-true}
+use Rattle.rules.specs.declared.Place.{Place}
 use Rattle.rules.specs.Tests.{member}
-use Rattle.rules.specs.State.{limit, live_thread_count}
+use Rattle.rules.specs.State.{limit, live_thread_count, place_at}
+use Rattle.rules.specs.Release.{topmost_at}
 use Rattle.rules.specs.Sound.{sound}
+use Rattle.rules.proofs.Basics.Members.{all_at}
+use Rattle.rules.proofs.Order.Orders.{top_some}
 use Rattle.rules.proofs.Basics.Views.{and_true_left, and_true_right, and_true_both}
 use Rattle.neighbours.specs.Reading.{turns_read, is_listed}
 use Rattle.neighbours.specs.Forming.{forms_list, Linked}
@@ -83,3 +88,9 @@ unfolding stored
 stored_with m e n o t l =
     and_true_both _ _ (eq-eqb n.live_threads (live_thread_count n.threads) l)
     (ap₂ forms_list o t ∙ forms m e)
+
+-- the topmost timeslice of a set is listed, and its number small
+pub topmost_fits : (m : Machine) → stored m ≡ true → (at : Place → Bool) (t : ℕ) → topmost_at at (shown m) ≡ some t → t < 128
+topmost_fits m e at t is =
+    let listed = (top_some (shown m).slices (λ u. at (place_at (shown m).places u)) (shown m).order t is).listed in
+    ltb-true t limit (all_at (λ u. ltb u limit) (shown m).order (turns_linked m e).low t listed)

@@ -42,7 +42,8 @@ threads_to ths m =
 pub threads_shown : (m : Machine) (ths ths' : List Thread) → ths ≡ ths' → shown (threads_to ths m) ≡ with_threads ths' (shown m)
 threads_shown m ths ths' e = ap (λ (l : List Thread). with_threads l (shown m)) e
 
-pub threads_exact : (m : Machine) (ths ths' : List Thread) → stored m ≡ true → ths ≡ ths' → live_thread_count ths' ≡ live_thread_count m.threads
+pub threads_exact : (m : Machine) (ths ths' : List Thread) → stored m ≡ true → ths ≡ ths'
+    → live_thread_count ths' ≡ live_thread_count m.threads
     → stored (threads_to ths m) ≡ true
 threads_exact m ths ths' ok e l = stored_with m ok (threads_to ths m) refl refl (live_is m ok ∙ sym l ∙ sym (ap live_thread_count e))
 
@@ -74,10 +75,6 @@ module _ (m : Machine) (n : ℕ) (r : Role) (ths : List Thread) (new : ths ≡ c
       stored_with m ok creation refl refl
       (add-one m.live_threads ∙ ap suc (live_is m ok) ∙ sym (created_made m.threads n r short free).count
       ∙ sym (ap live_thread_count new))
-
--- what stands at an index stands at its number
-pub read : {A : Type 0} (f : Thread → A) (ts : List Thread) (k n : ℕ) (v : A) → k ≡ n → f (thread_at ts k) ≡ v → f (thread_at ts n) ≡ v
-read f ts k n v e is = sym (ap (λ (j : ℕ). f (thread_at ts j)) e) ∙ is
 
 pub choosable : (m : Machine) → stored m ≡ true → Choosable m 0
 choosable m ok = record { exact = ok; few = omega arith }

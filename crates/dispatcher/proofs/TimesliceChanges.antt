@@ -2,13 +2,13 @@
 use Prim.Native.Nat.{ℕ, suc, ◌+◌, ◌-◌, ◌≤◌, ◌<◌}
 use mathlib.Core.Path.{◌≡◌, refl, sym, ◌∙◌, ap, ap₂, subst}
 use mathlib.Core.List.{List, [], map}
-use mathlib.Core.Bool.{Bool, true, false, cond}
-use mathlib.Core.Option.{some}
+use mathlib.Core.Bool.{Bool, true, false, cond, not, ◌&&◌}
+use mathlib.Core.Option.{Option, none, some}
 use native.Mathlib.Omega.{arith}
 use native.Mathlib.Numerals.{add-one}
 use lib.ListN.{length, get_or, set}
-use lib.Dec.{eqb}
-use borrow.Author.Tests.{eq-eqb, ne_eqb}
+use lib.Dec.{eqb, ltb}
+use borrow.Author.Tests.{eq-eqb, ne_eqb, lt-ltb}
 use lib.Seq.{map-set_same}
 use Rattle.rules.specs.declared.Thread.{Thread}
 use Rattle.rules.specs.declared.Place.{Place}
@@ -18,27 +18,31 @@ use Rattle.rules.specs.declared.Running.TheVariants.{Runs}
 use Rattle.rules.specs.declared.Timeslice.{Timeslice}
 use Rattle.rules.specs.Tests.{member}
 use Rattle.rules.specs.declared.Slice.{Slice}
-use Rattle.rules.specs.State.{State, free_slice, slice_at, left_at, place_at, with_threads, with_places, with_timeslices}
+use Rattle.rules.specs.State.{State, limit, forget, free_slice, slice_at, left_at, place_at, with_threads, with_places, with_timeslices}
 use Rattle.rules.specs.Walk.{walk}
 use Rattle.rules.specs.Timeslices.{with_left, set_left, given, last, without, to_back, charged, refilled, struck, ranked}
-use Rattle.rules.specs.Release.{behind, release}
+use Rattle.rules.specs.Release.{behind, on_thread, stalled, release_to, release}
 use Rattle.rules.specs.Choice.{Outcome, park, choose}
 use Rattle.rules.specs.Events.{with_given, release_walked, after_walk, end_blocked, strike_out, depletes, spends, charge_by, charge}
 use Rattle.rules.specs.Events.{with_refilled, detached, with_ranked, overtakes, settle_if, settle}
 use Rattle.dispatcher.specs.declared.Machine.{Machine}
-use Rattle.dispatcher.specs.declared.Answered.{Answered}
+use Rattle.dispatcher.specs.Promise.{Answered}
 use Rattle.tables.specs.Timeslices.{slice_of, place_of, free_timeslice, set_priority}
-use Rattle.dispatcher.specs.Shown.{sides_of, shown, stored}
+use Rattle.dispatcher.specs.Shown.{sides_of, shown, stored, sound_machine}
 use Rattle.timeslices.specs.Releasing.{places_after, detached_places, Replaced}
 use Rattle.neighbours.specs.Sides.{Sides, sides}
 use Rattle.neighbours.specs.Reading.{turns_read}
-use Rattle.neighbours.specs.Forming.{Linked}
-use Rattle.dispatcher.specs.Choosing.{before, Settled, Chosen}
+use Rattle.neighbours.specs.Forming.{Linked, Changes}
+use Rattle.dispatcher.specs.Choosing.{before, Settled, Chosen, Shows}
+use Rattle.rules.proofs.Basics.Views.{and_true_both}
+use Rattle.rules.proofs.Bounds.{turns_room}
+use Rattle.rules.proofs.Soundness.Places.{sound_of}
 use Rattle.rules.proofs.Order.Orders.{length_last, length_without, length_back}
 use Rattle.tables.proofs.Lookups.{slice_at_lem, map-set}
 use Rattle.timeslices.proofs.ReleaseLoop.{release_is}
 use Rattle.timeslices.proofs.Detaching.{ranked_slices, ranked_places, detached_is}
-use Rattle.dispatcher.proofs.Stored.{live_is, turns_fit, turns_many, order_shown, stored_of}
+use Rattle.dispatcher.proofs.Stored.{sound_stored, sound_shown, live_is, turns_fit, turns_many, turns_linked}
+use Rattle.dispatcher.proofs.Stored.{order_shown, stored_of, stored_with}
 
 -- a new timeslice, last in turn order
 module _ (m : Machine) (j t n p q : ℕ) (at : j ≡ t) (s : Sides) (short : m.live_timeslices < 128) where
@@ -72,6 +76,19 @@ module _ (m : Machine) (j t n p q : ℕ) (at : j ≡ t) (s : Sides) (short : m.l
 
     pub gift_exact : stored gift ≡ true
     gift_exact = stored_of gift (last t (shown m).order) k many (omega arith) (live_is m ok)
+
+-- there is room for a timeslice that is not listed, and appended it is the last
+module _ (m : Machine) (t : ℕ) (small : t < 128) (unlisted : member t (shown m).order ≡ false) where
+  pub gift_room : sound_machine m ≡ true → m.live_timeslices < 128
+  gift_room ok =
+      let few = turns_room (forget (shown m)) (sound_of (shown m) (sound_shown m ok)).mid.shape t small unlisted in
+      omega (arith, few, turns_many m (sound_stored m ok))
+
+  pub gift_linked : (ok : stored m ≡ true) (longer : Sides)
+      → Changes (λ order. ltb t limit && not (member t order)) (last t) (sides_of m) longer → Linked longer (last t (shown m).order)
+  gift_linked ok longer turned =
+      turned (shown m).order (turns_linked m ok)
+      (and_true_both (ltb t limit) (not (member t (shown m).order)) (lt-ltb t limit small) (rw unlisted refl))
 
 -- so much is left of a timeslice now, at this place
 module _ (ts : List Timeslice) (k t l : ℕ) (p : Place) (at : k ≡ t) where
@@ -185,6 +202,38 @@ module _ (m : Machine) (t : ℕ) (ok : stored m ≡ true) (listed : member t (sh
           let places : map place_of cleared ≡ set (map place_of m.timeslices) t Queue =
           map-set place_of m.timeslices k free_timeslice ∙ ap (λ (j : ℕ). set (map place_of m.timeslices) j Queue) at in
           released_shown (fewer free) (behind t) _ _ cleared free _ _ rest _ refl slices places rest_turns r
+
+-- a release leaves the threads as they were, and so does striking out
+released_to : (at : Place → Bool) (s : State) (first : Option ℕ) → (release_to at s first).threads ≡ s.threads
+released_to at s none = refl
+released_to at s (some q) = refl
+
+pub struck_threads : (t : Option ℕ) (s : State) (n : Machine) → Shows (strike_out t s) n → n.threads ≡ s.threads
+unfolding park release
+struck_threads none s n h = ap (λ (u : State). u.threads) h.state
+struck_threads (some t) s n h = ap (λ (u : State). u.threads) h.state ∙ released_to (behind t) _ _
+
+-- what a walk came to: it looped, or it ended at a Blocked thread
+module _ (m now : Machine) (end : ℕ) (ok : stored m ≡ true) where
+  pub walk_looped : (looped blocked : Bool) (free : List Timeslice) → looped ≡ true
+      → Replaced m.timeslices (places_after stalled (shown m).slices (shown m).order (shown m).places) free
+      → now ≡ moved_to m.threads free (sides_of m) m → Shows (release_walked looped blocked end (shown m)) now
+  walk_looped looped blocked free l r is =
+      rw (is, l)
+      (record {
+        state = released_shown m stalled _ _ m.timeslices free _ _ (sides_of m) _ refl refl refl refl r;
+        exact = stored_with m ok _ refl refl (live_is m ok);
+      })
+
+  pub walk_blocked : (looped blocked : Bool) (free : List Timeslice) → looped ≡ false → blocked ≡ true
+      → Replaced m.timeslices (places_after (on_thread end) (shown m).slices (shown m).order (shown m).places) free
+      → now ≡ moved_to m.threads free (sides_of m) m → Shows (release_walked looped blocked end (shown m)) now
+  walk_blocked looped blocked free l b r is =
+      rw (is, l, b)
+      (record {
+        state = released_shown m (on_thread end) _ _ m.timeslices free _ _ (sides_of m) _ refl refl refl refl r;
+        exact = stored_with m ok _ refl refl (live_is m ok);
+      })
 
 -- after a walk, by what it came to
 pub after_walk_lem : (c : Chain) (b : Bool) (k : ℕ) (m : Machine) (s : State) (r : Answered) → k ≡ c.links

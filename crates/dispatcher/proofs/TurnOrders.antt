@@ -18,7 +18,7 @@ use Rattle.neighbours.specs.Reading.{turns_read}
 use Rattle.neighbours.specs.Forming.{Linked}
 use Rattle.neighbours.proofs.TurnOrder.{linked_same}
 use Rattle.dispatcher.specs.declared.Machine.{Machine}
-use Rattle.dispatcher.specs.declared.Answered.{Answered}
+use Rattle.dispatcher.specs.Promise.{Answered}
 use Rattle.dispatcher.specs.Shown.{sides_of, shown, sound_machine, empty_machine}
 use Rattle.dispatcher.proofs.Stored.{sound_stored, sound_shown, turns_linked, turns_many}
 use Rattle.dispatcher.proofs.Runs.{as_offered, Runs, stops, steps, answered_sound, empty_shown, empty_machine_sound}

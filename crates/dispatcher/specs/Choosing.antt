@@ -5,7 +5,7 @@ use Rattle.rules.specs.declared.Place.TheVariants.{Behind, On, Stalled}
 use Rattle.rules.specs.State.{State}
 use Rattle.rules.specs.Choice.{Outcome, choose}
 use Rattle.dispatcher.specs.declared.Machine.{Machine}
-use Rattle.dispatcher.specs.declared.Answered.{Answered}
+use Rattle.dispatcher.specs.Promise.{Answered}
 use Rattle.tables.specs.declared.ends.Verdict.{Verdict}
 use Rattle.tables.specs.declared.ends.Verdict.TheVariants.{Runs, Retries, Waits, Stalls}
 use Rattle.dispatcher.specs.Shown.{shown, stored}

@@ -2,3 +2,4 @@
 pub mod Shown
 pub mod Choosing
 pub mod Promise
+pub mod Refusing

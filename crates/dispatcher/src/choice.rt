@@ -1,12 +1,11 @@
 // Document 01, "Release and choice": the choice.
-ghost use Rattle.std.specs.Prelude.{◌≡◌, ◌+◌, ◌≤◌};
+ghost use Rattle.std.specs.Prelude.{◌≡◌, Ok};
 ghost use Rattle.dispatcher.specs.Choosing.{aside_of, freed_by, Choosable, Chosen};
+ghost use Rattle.dispatcher.specs.Promise.{answered};
 
-use crate::{Answered, Machine};
+use crate::Machine;
 use rules::{Hold, Place, Running, Timeslice};
 use tables::ends::{Verdict, judged};
-use tables::numbers::index;
-use tables::order::Sought;
 use tables::threads::donated;
 use tables::walk::walk;
 use timeslices::heights::{code, fill, park_codes, release_set, top_of};
@@ -17,9 +16,7 @@ pub(crate) fn aside(verdict: Verdict, end: u8) -> Place
     ensures { result ≡ aside_of verdict end }
 {
     match verdict {
-        Verdict::Runs => Place::On(end),
-        Verdict::Retries => Place::On(end),
-        Verdict::Waits => Place::On(end),
+        Verdict::Runs | Verdict::Retries | Verdict::Waits => Place::On(end),
         Verdict::Stalls => Place::Stalled,
     }
 }
@@ -29,116 +26,71 @@ pub(crate) fn freed_by(verdict: Verdict, t: u8, end: u8) -> Place
     ensures { result ≡ freed_by verdict t end }
 {
     match verdict {
-        Verdict::Runs => Place::Behind(t),
         Verdict::Retries => Place::On(end),
-        Verdict::Waits => Place::Behind(t),
-        Verdict::Stalls => Place::Behind(t),
+        Verdict::Runs | Verdict::Waits | Verdict::Stalls => Place::Behind(t),
     }
 }
 
-pub(crate) fn added(links: u16, more: u8) -> u16
-    requires { links ≤ 65000 }
-    ensures { result ≡ links + more }
-{
-    links + (more as u16)
-}
-
 impl Machine {
-    pub(crate) fn choose(mut self, links: u16) -> Answered
-        requires { Choosable self links }
-        ensures { Chosen self links result }
+    // The turn order, the codes and the heights are three arrays since a search through numbers alone is compiled to vector instructions; a
+    // look works on all of them and on the machine, so the looks are one function.
+    pub(crate) fn choose(&mut self, links: u16) -> u16
+        requires { Choosable self.old links }
+        ensures { Chosen self.old links (answered self.new (Ok result)) }
     {
         let live = self.live_timeslices;
-        let live_threads = self.live_threads;
         let mut followed = links;
-        let mut looks = index(live) + 2;
         let mut order = [0u8; Timeslice::LIMIT];
         let mut codes = [0u16; Timeslice::LIMIT];
         let mut heights = [0u16; Timeslice::LIMIT];
-        let timeslices = self.timeslices;
         fill(
             &mut order,
             &mut codes,
             &mut heights,
-            timeslices,
+            self.timeslices,
             &self.after,
             live,
         );
-        while 0 < looks {
-            looks -= 1;
+        for _ in 0..usize::from(live) + 2 {
             // The code of Queue is 0.
-            let top = top_of(&codes, &heights, &order, live, 0);
-            match top {
-                Sought::Nothing => {
-                    return Answered {
-                        machine: Machine {
-                            running: Running::Nothing,
-                            ..self
-                        },
-                        refusal: 0,
-                        links: followed,
+            let Some(t) = top_of(&codes, &heights, &order, live, 0) else {
+                self.running = Running::Nothing;
+                return followed;
+            };
+            let k = usize::from(t);
+            let chain = walk(self.threads, self.live_threads, self.timeslices[k].owner);
+            followed += u16::from(chain.links);
+            let e = usize::from(chain.end);
+            // Not by `thread_at`, which is given the whole table: a copy at every look made the events 11 % slower.
+            let hold = if e < 128 {
+                self.threads[e].hold
+            } else {
+                Hold::Ready
+            };
+            let verdict = judged(chain.looped, hold, chain.links);
+            match verdict {
+                Verdict::Runs => {
+                    self.running = Running::Runs {
+                        thread: chain.end,
+                        timeslice: t,
+                        count: chain.count,
                     };
+                    return followed;
                 }
-                Sought::At(t) => {
-                    let k = index(t);
-                    let mut owner: u8 = 0;
-                    if k < 128 {
-                        let x = self.timeslices[k];
-                        owner = x.owner;
-                    }
-                    let threads = self.threads;
-                    let chain = walk(threads, live_threads, owner);
-                    let end = chain.end;
-                    let helper = chain.helper;
-                    followed = added(followed, chain.links);
-                    let e = index(end);
-                    let mut hold = Hold::Ready;
-                    if e < 128 {
-                        let z = self.threads[e];
-                        hold = z.hold;
-                    }
-                    let said = judged(chain.looped, hold, chain.links);
-                    match said {
-                        Verdict::Runs => {
-                            let running = Running::Runs {
-                                thread: end,
-                                timeslice: t,
-                                count: chain.count,
-                            };
-                            return Answered {
-                                machine: Machine { running, ..self },
-                                refusal: 0,
-                                links: followed,
-                            };
-                        }
-                        Verdict::Retries => {
-                            let next = donated(threads, helper, end);
-                            self.threads = next;
-                        }
-                        Verdict::Waits | Verdict::Stalls => {
-                            let place = aside(said, end);
-                            if k < 128 {
-                                let x = self.timeslices[k];
-                                let y = Timeslice { place, ..x };
-                                self.timeslices[k] = y;
-                                let c = code(place);
-                                park_codes(&mut codes, &order, live, t, c);
-                            }
-                        }
-                    }
-                    let set = freed_by(said, t, end);
-                    let first = release_set(&mut codes, &heights, &order, live, set);
-                    match first {
-                        Sought::Nothing => {}
-                        Sought::At(q) => {
-                            let timeslices = self.timeslices;
-                            let free = released(timeslices, &self.after, live, set, q);
-                            self.timeslices = free;
-                        }
-                    }
+                Verdict::Retries => {
+                    self.threads = donated(self.threads, chain.helper, chain.end);
+                }
+                Verdict::Waits | Verdict::Stalls => {
+                    let place = aside(verdict, chain.end);
+                    self.timeslices[k].place = place;
+                    park_codes(&mut codes, &order, live, t, code(place));
                 }
             }
+            let set = freed_by(verdict, t, chain.end);
+            if let Some(q) = release_set(&mut codes, &heights, &order, live, set) {
+                self.timeslices = released(self.timeslices, &self.after, live, set, q);
+            }
         }
-        self.answered(0, followed)
+        followed
     }
 }

@@ -2,10 +2,10 @@
 ghost use Rattle.std.specs.Prelude.{◌≡◌, true};
 ghost use Rattle.rules.specs.Events.{dispatch};
 ghost use Rattle.dispatcher.specs.Shown.{shown, sound_machine};
-ghost use Rattle.dispatcher.specs.Promise.{Answers};
+ghost use Rattle.dispatcher.specs.Promise.{Answers, answered};
 
-use crate::{Answered, Machine};
-use rules::Event;
+use crate::Machine;
+use rules::{Event, Refusal};
 
 mod abort;
 mod block;
@@ -22,9 +22,11 @@ mod wake;
 impl Machine {
     // It does not test soundness, which costs far more than an event: a list is tested once, at its beginning, and stays sound from event
     // to event. So it asks for a sound machine, and the checker refuses a caller that does not show it one.
-    pub fn dispatch(self, e: Event) -> Answered
-        requires { sound_machine self ≡ true }
-        ensures { Answers (dispatch e (shown self)) self result }
+    //
+    // The links followed, or why the event is refused: then the machine is as it was.
+    pub fn dispatch(&mut self, e: Event) -> Result<u16, Refusal>
+        requires { sound_machine self.old ≡ true }
+        ensures { Answers (dispatch e (shown self.old)) self.old (answered self.new result) }
     {
         match e {
             Event::Create { thread, role } => self.dispatch_create(thread, role),

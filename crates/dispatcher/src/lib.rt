@@ -3,15 +3,15 @@
 ghost use Rattle.std.specs.Prelude.{◌≡◌};
 ghost use Rattle.dispatcher.specs.Shown.{empty_machine, sound_machine, turns_of};
 
+mod checks;
 mod choice;
 mod doors;
 mod events;
 mod settle;
 
 use neighbours::reading::laid_out;
-use rules::{Running, Thread, Timeslice};
+use rules::{Refusal, Running, Thread, Timeslice};
 
-// The small fields come first: then what an answer copies beside a new `running` is in few pieces.
 #[derive(Clone, Copy)]
 pub struct Machine {
     pub running: Running,
@@ -26,12 +26,11 @@ pub struct Machine {
     pub timeslices: [Timeslice; 128],
 }
 
-// The machine after an event, with the answer: the refusal number, 0 for none, and the links followed.
+// The machine after an event, with the answer: the links followed, or why the event is refused.
 #[derive(Clone, Copy)]
 pub struct Answered {
     pub machine: Machine,
-    pub refusal: u8,
-    pub links: u16,
+    pub answer: Result<u16, Refusal>,
 }
 
 impl Machine {
@@ -39,8 +38,6 @@ impl Machine {
     pub fn empty() -> Machine
         ensures { result ≡ empty_machine }
     {
-        let thread = Thread::FREE;
-        let timeslice = Timeslice::FREE;
         let mut before = [255u8; 129];
         let mut after = [255u8; 129];
         before[128] = 128;
@@ -51,47 +48,31 @@ impl Machine {
             live_timeslices: 0,
             before,
             after,
-            threads: [thread; Thread::LIMIT],
-            timeslices: [timeslice; Timeslice::LIMIT],
+            threads: [Thread::FREE; Thread::LIMIT],
+            timeslices: [Timeslice::FREE; Timeslice::LIMIT],
         }
     }
 
     // A true L, neighbours that form a list of T timeslices, and the state shown is sound.
-    pub fn is_sound(self) -> bool
-        ensures { result ≡ sound_machine self }
+    pub fn is_sound(&self) -> bool
+        ensures { result ≡ sound_machine self.now }
     {
-        let threads = self.threads;
-        let timeslices = self.timeslices;
-        let before = self.before;
-        let after = self.after;
-        let running = self.running;
         soundness::is_sound(
-            threads,
-            timeslices,
-            before,
-            after,
+            self.threads,
+            self.timeslices,
+            self.before,
+            self.after,
             self.live_threads,
             self.live_timeslices,
-            running,
+            self.running,
         )
     }
 
     // The turn order from its front, as an array: as many entries as there are live timeslices. Readers take it from here, however it
     // is stored.
-    pub fn turn_order(self) -> [u8; 128]
-        ensures { result ≡ turns_of self }
+    pub fn turn_order(&self) -> [u8; 128]
+        ensures { result ≡ turns_of self.now }
     {
         laid_out(&self.after, self.live_timeslices)
-    }
-
-    // The answer with the machine as it is now.
-    pub(crate) fn answered(self, refusal: u8, links: u16) -> Answered
-        ensures { result ≡ record { machine = self; refusal = refusal; links = links } }
-    {
-        Answered {
-            machine: self,
-            refusal,
-            links,
-        }
     }
 }

@@ -1,108 +1,90 @@
 // Document 01, "Events": after an event's changes, the releases and the choice that it makes.
-ghost use Rattle.std.specs.Prelude.{◌≡◌};
+ghost use Rattle.std.specs.Prelude.{◌≡◌, true, Ok};
 ghost use Rattle.std.proofs.Math.Option.{some};
 ghost use Rattle.rules.specs.Order.{stands_above};
-ghost use Rattle.rules.specs.Events.{overtakes, settle_if, settle, releases, after_walk};
-ghost use Rattle.dispatcher.specs.Shown.{shown};
-ghost use Rattle.dispatcher.specs.Choosing.{Choosable, Settled, before};
+ghost use Rattle.rules.specs.Events.{overtakes, settle_if, settle, releases, release_walked, after_walk};
+ghost use Rattle.dispatcher.specs.Shown.{shown, stored};
+ghost use Rattle.dispatcher.specs.Choosing.{Choosable, Settled, Shows, before};
+ghost use Rattle.dispatcher.specs.Promise.{answered};
 
-use crate::{Answered, Machine};
-use rules::{Chain, Place, Running, Timeslice};
-use tables::numbers::{index, wide};
+use crate::Machine;
+use rules::{Chain, Place, Running};
 use timeslices::release::{release, released};
 use timeslices::search::{Members, members_of};
 
 impl Machine {
     // "Of two timeslices the higher priority stands above; among equals, the earlier in turn order."
-    pub fn stands_above(self, a: u8, b: u8) -> bool
-        ensures { result ≡ stands_above (shown self).slices (shown self).order a b }
+    pub fn stands_above(&self, a: u8, b: u8) -> bool
+        ensures { result ≡ stands_above (shown self.now).slices (shown self.now).order a b }
     {
-        let j = index(a);
-        let mut high: u8 = 0;
-        if j < 128 {
-            let x = self.timeslices[j];
-            high = x.priority;
-        }
-        let k = index(b);
-        let mut low: u8 = 0;
-        if k < 128 {
-            let y = self.timeslices[k];
-            low = y.priority;
-        }
+        // Not by `timeslice_at`, which is given the whole table: the two copies made the events 7 % slower.
+        let j = usize::from(a);
+        let high = if j < 128 {
+            self.timeslices[j].priority
+        } else {
+            0
+        };
+        let k = usize::from(b);
+        let low = if k < 128 {
+            self.timeslices[k].priority
+        } else {
+            0
+        };
         neighbours::standing::stands_above(&self.after, self.live_timeslices, a, high, b, low)
     }
 
     // A timeslice joined Queue: choice if nothing runs or it stands above the current.
-    pub(crate) fn overtaken(self, q: u8) -> Answered
-        requires { Choosable self 0 }
-        ensures { Settled (settle_if (overtakes (shown self) (some q)) (before self 0)) result }
+    pub(crate) fn overtaken(&mut self, q: u8) -> u16
+        requires { Choosable self.old 0 }
+        ensures { Settled (settle_if (overtakes (shown self.old) (some q)) (before self.old 0)) (answered self.new (Ok result)) }
     {
-        let running = self.running;
-        match running {
-            Running::Nothing => self.choose(0),
-            Running::Runs {
-                thread: _,
-                timeslice: t,
-                count: _,
-            } => {
-                if self.stands_above(q, t) {
-                    return self.choose(0);
-                }
-                self.answered(0, 0)
-            }
+        let Running::Runs { timeslice, .. } = self.running else {
+            return self.choose(0);
+        };
+        if self.stands_above(q, timeslice) {
+            return self.choose(0);
         }
+        0
     }
 
     // Those On a thread are released; where there is one only, it alone changes its place.
-    pub(crate) fn waiters_released(mut self, n: u8) -> Answered
-        requires { Choosable self 0 }
-        ensures { Settled (settle (releases n (shown self))) result }
+    pub(crate) fn waiters_released(&mut self, n: u8) -> u16
+        requires { Choosable self.old 0 }
+        ensures { Settled (settle (releases n (shown self.old))) (answered self.new (Ok result)) }
     {
-        let timeslices = self.timeslices;
         let live = self.live_timeslices;
-        let waiters = members_of(timeslices, &self.after, live, Place::On(n));
-        match waiters {
-            Members::None => self.answered(0, 0),
+        match members_of(self.timeslices, &self.after, live, Place::On(n)) {
+            Members::None => 0,
             Members::One(q) => {
-                let k = index(q);
-                if k < 128 {
-                    let x = self.timeslices[k];
-                    let y = Timeslice {
-                        place: Place::Queue,
-                        ..x
-                    };
-                    self.timeslices[k] = y;
-                }
+                self.timeslices[usize::from(q)].place = Place::Queue;
                 self.overtaken(q)
             }
             Members::Several(q) => {
-                let free = released(timeslices, &self.after, live, Place::On(n), q);
-                self.timeslices = free;
+                self.timeslices = released(self.timeslices, &self.after, live, Place::On(n), q);
                 self.overtaken(q)
             }
         }
     }
 
-    // After a walk that looped the Stalled are released, after one that ended at a Blocked thread those On it; a choice follows.
-    pub(crate) fn settled_after(mut self, chain: Chain, blocked: bool) -> Answered
-        requires { Choosable self chain.links }
-        ensures { Settled (settle (after_walk chain blocked (shown self))) result }
+    // After a walk that looped the Stalled are released, after one that ended at a Blocked thread those On it.
+    pub(crate) fn walk_released(&mut self, chain: Chain, blocked: bool)
+        requires { stored self.old ≡ true }
+        ensures { Shows (release_walked chain.looped blocked chain.end (shown self.old)) self.new }
     {
-        let links = wide(chain.links);
+        let live = self.live_timeslices;
         if chain.looped {
-            let timeslices = self.timeslices;
-            let live = self.live_timeslices;
-            let free = release(timeslices, &self.after, live, Place::Stalled);
-            self.timeslices = free;
-            return self.choose(links);
+            self.timeslices = release(self.timeslices, &self.after, live, Place::Stalled);
+        } else if blocked {
+            self.timeslices = release(self.timeslices, &self.after, live, Place::On(chain.end));
         }
-        if blocked {
-            let timeslices = self.timeslices;
-            let live = self.live_timeslices;
-            let free = release(timeslices, &self.after, live, Place::On(chain.end));
-            self.timeslices = free;
-            return self.choose(links);
-        }
-        self.choose(links)
+    }
+
+    // A choice follows.
+    pub(crate) fn settled_after(&mut self, chain: Chain, blocked: bool) -> u16
+        requires { Choosable self.old chain.links }
+        ensures { Settled (settle (after_walk chain blocked (shown self.old))) (answered self.new (Ok result)) }
+    {
+        self.walk_released(chain, blocked);
+        self.choose(u16::from(chain.links))
     }
 }

@@ -5,6 +5,6 @@ pub mod reader;
 mod words;
 pub mod writer;
 
-pub use reader::{Found, Opened, Stepped, open, step};
+pub use reader::{Found, Stepped, check_file, open, step};
 pub use words::{byte_at, length_field, word};
-pub use writer::{Written, append, start};
+pub use writer::{append, record_length, role_byte, start};

@@ -1,76 +1,72 @@
-// One readable line for each thing that the program tries.
-use event_file::{Found, Opened, Written};
-use rules::{Event, Role};
-use std::io;
+// In words what the program prints. The types of other crates cannot get their Display here, so each is shown by a struct of this crate.
+use event_file::Found;
+use rules::{Event, Refusal, Role};
+use std::fmt;
 
-pub(crate) fn say(rt: &impl Print, text: &[u8]) -> io::Result<()> {
-    rt.write_all(text)
-}
+#[derive(Clone, Copy)]
+pub(crate) struct Side(pub Role);
 
-pub(crate) fn number(rt: &impl Print, label: &[u8], n: usize) -> io::Result<()> {
-    say(rt, label)?;
-    rt.print(n)
-}
-
-fn role(rt: &impl Print, role: Role) -> io::Result<()> {
-    match role {
-        Role::Client => say(rt, b" client"),
-        Role::Server => say(rt, b" server"),
-    }
-}
-
-pub(crate) fn event(rt: &impl Print, event: Event) -> io::Result<()> {
-    match event {
-        Event::Create { thread, role: side } => {
-            number(rt, b"create thread ", thread as usize)?;
-            role(rt, side)
-        }
-        Event::Give {
-            timeslice,
-            thread,
-            priority,
-            quantum,
-        } => {
-            number(rt, b"give timeslice ", timeslice as usize)?;
-            number(rt, b" to thread ", thread as usize)?;
-            number(rt, b" priority ", priority as usize)?;
-            number(rt, b" quantum ", quantum as usize)
-        }
-        Event::Call { server } => number(rt, b"call server ", server as usize),
-        Event::Reply => say(rt, b"reply"),
-        Event::Block => say(rt, b"block"),
-        Event::Wake { thread } => number(rt, b"wake thread ", thread as usize),
-        Event::Charge { units } => number(rt, b"charge ", units as usize),
-        Event::Abort { thread } => number(rt, b"abort thread ", thread as usize),
-        Event::Refill { timeslice } => number(rt, b"refill timeslice ", timeslice as usize),
-        Event::Remove { thread } => number(rt, b"remove thread ", thread as usize),
-        Event::Rank {
-            timeslice,
-            priority,
-        } => {
-            number(rt, b"rank timeslice ", timeslice as usize)?;
-            number(rt, b" priority ", priority as usize)
+impl fmt::Display for Side {
+    fn fmt<W: fmt::Write>(&self, f: &mut fmt::Formatter<W>) -> fmt::Result {
+        match self.0 {
+            Role::Client => write!(f, "client"),
+            Role::Server => write!(f, "server"),
         }
     }
 }
 
-pub(crate) fn found(rt: &impl Print, found: Found) -> io::Result<()> {
-    match found {
-        Found::Record(e) => event(rt, e),
-        Found::End => say(rt, b"end"),
-        Found::Bad => say(rt, b"no good record"),
-    }?;
-    say(rt, b"\n")
+#[derive(Clone, Copy)]
+pub(crate) struct Words(pub Event);
+
+impl fmt::Display for Words {
+    fn fmt<W: fmt::Write>(&self, f: &mut fmt::Formatter<W>) -> fmt::Result {
+        match self.0 {
+            Event::Create { thread, role } => write!(f, "create thread {thread} {}", Side(role)),
+            Event::Give {
+                timeslice,
+                thread,
+                priority,
+                quantum,
+            } => write!(
+                f,
+                "give timeslice {timeslice} to thread {thread} priority {priority} quantum {quantum}"
+            ),
+            Event::Call { server } => write!(f, "call server {server}"),
+            Event::Reply => write!(f, "reply"),
+            Event::Block => write!(f, "block"),
+            Event::Wake { thread } => write!(f, "wake thread {thread}"),
+            Event::Charge { units } => write!(f, "charge {units}"),
+            Event::Abort { thread } => write!(f, "abort thread {thread}"),
+            Event::Refill { timeslice } => write!(f, "refill timeslice {timeslice}"),
+            Event::Remove { thread } => write!(f, "remove thread {thread}"),
+            Event::Rank {
+                timeslice,
+                priority,
+            } => write!(f, "rank timeslice {timeslice} priority {priority}"),
+        }
+    }
 }
 
-pub(crate) fn opened(rt: &impl Print, o: Opened) -> io::Result<()> {
-    number(rt, b"refusal ", o.refusal as usize)?;
-    number(rt, b", offset ", o.offset)?;
-    say(rt, b"\n")
+// What a step found.
+#[derive(Clone, Copy)]
+pub(crate) struct Stood(pub Found);
+
+impl fmt::Display for Stood {
+    fn fmt<W: fmt::Write>(&self, f: &mut fmt::Formatter<W>) -> fmt::Result {
+        match self.0 {
+            Found::Record(event) => write!(f, "{}", Words(event)),
+            Found::End => write!(f, "end"),
+            Found::Bad => write!(f, "no good record"),
+        }
+    }
 }
 
-pub(crate) fn written(rt: &impl Print, w: Written) -> io::Result<()> {
-    number(rt, b"refusal ", w.refusal as usize)?;
-    number(rt, b", filled ", w.filled)?;
-    say(rt, b"\n")
+// The refusal number of an answer, 0 for none.
+#[derive(Clone, Copy)]
+pub(crate) struct Number(pub Result<usize, Refusal>);
+
+impl fmt::Display for Number {
+    fn fmt<W: fmt::Write>(&self, f: &mut fmt::Formatter<W>) -> fmt::Result {
+        write!(f, "refusal {}", Refusal::number_in(self.0))
+    }
 }

@@ -1,17 +1,21 @@
 -- The key of a file by cases, put at the front of a buffer with room.
+use Rattle.std.specs.Prelude.{Result, Err}
 use Prim.Native.Nat.{ℕ}
 use mathlib.Core.Path.{◌≡◌, refl}
 use mathlib.Core.List.{List}
+use Rattle.rules.specs.declared.refusal.Refusal.{Refusal}
+use Rattle.rules.specs.RefusalNumbers.{number_of, number_in}
 use Rattle.rules.specs.State.{empty}
 use Rattle.rules.specs.Lists.{run}
 use Rattle.rules.specs.EventFile.{file_refusal, events_of}
 use Rattle.rules.specs.Key.{lines, file_line, key_after, key}
-use Rattle.text.proofs.Refused.{refused_line}
+use Rattle.text.proofs.Refused.{refused_answer}
 
 -- a refused file
-pub refused_key : (file : List ℕ) (n : ℕ) → n ≡ file_refusal file → (n ≡ 0 → ⊥) → file_line n ≡ key file
+pub refused_key : (file : List ℕ) {A : Type 0} {answer : Result A Refusal} {why : Refusal} → number_in answer ≡ file_refusal file
+    → answer ≡ Err why → file_line (number_of why) ≡ key file
 unfolding key
-refused_key file n e h = refused_line (λ k. key_after k file) (λ _. refl) e h
+refused_key file asked is = refused_answer (λ k. key_after k file) (λ _. refl) asked is
 
 -- an accepted file
 pub accepted_key : (file : List ℕ) → file_refusal file ≡ 0 → lines 1 (run (events_of file) empty) ≡ key file

@@ -17,7 +17,7 @@ use Rattle.event_file.specs.declared.reader.Found.{Found}
 use Rattle.event_file.specs.Answers.{shown_found}
 use Rattle.event_file.specs.contracts.reader.Found.{the_type}
 use Rattle.dispatcher.specs.declared.Machine.{Machine}
-use Rattle.dispatcher.specs.declared.Answered.{Answered}
+use Rattle.dispatcher.specs.Promise.{Answered}
 use Rattle.dispatcher.specs.Shown.{shown, empty_machine}
 use Rattle.dispatcher.specs.Promise.{Answers}
 use Rattle.replay.proofs.Turns.{Ahead, begins, answer_of, goes_on, ended}
@@ -47,8 +47,8 @@ begin file before m e bytes h =
     }
 
 module _ {file before now : List ℕ} {at offset number : ℕ} {m : Machine} (g : Going file before now at offset number m) where
-  module _ {e : Event} {next : ℕ} {r : Answered} (found : event e ≡ (stepped file offset).found) (moved : next ≡ (stepped file offset).offset)
-      (given : Answers (dispatch e (shown m)) m r) where
+  module _ {e : Event} {next : ℕ} {r : Answered} (found : event e ≡ (stepped file offset).found)
+      (moved : next ≡ (stepped file offset).offset) (given : Answers (dispatch e (shown m)) m r) where
     -- the next event's line is put, and the machine goes on
     pub printed : {after : List ℕ} {to : ℕ} → Put now after at to (line_bytes number r.refusal r.machine.running r.links)
         → Going file before after to next (number + 1) r.machine

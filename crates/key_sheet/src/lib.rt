@@ -6,7 +6,7 @@ ghost use Rattle.rules.specs.Key.{key};
 
 mod lines;
 
-use event_file::reader::file_refusal;
+use event_file::check_file;
 use text::{INPUT, file_buffer, put_file_line};
 
 // Room for the key of every file: `key_fits`, in crate text.
@@ -20,14 +20,14 @@ pub fn input() -> [u8; INPUT]
     file_buffer()
 }
 
-// Writes the key of a file into a lent buffer, from its front, and gives the key's length. Every other byte stays.
+// Writes the key of a file into a lent buffer, from its front, and gives the key's length. Every other byte stays. (Each sheet has its own
+// definition and lines; what they share is `check_file` and `put_file_line`.)
 pub fn write_key(file: &[u8], out: &mut [u8; ROOM]) -> usize
     ensures { (result ≡ length (key file.now))
         × (out.new ≡ key file.now ++ drop (length (key file.now)) out.old) }
 {
-    let refusal = file_refusal(file);
-    if refusal != 0 {
-        return put_file_line(out, 0, refusal);
+    if let Err(refusal) = check_file(file) {
+        return put_file_line(out, 0, u8::from(refusal));
     }
     lines::put_lines(file, out)
 }

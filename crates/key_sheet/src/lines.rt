@@ -8,9 +8,10 @@ ghost use Rattle.text.specs.Put.{Put};
 
 use dispatcher::Machine;
 use event_file::{Found, step};
+use rules::Refusal;
 use text::put_key_line;
 
-// One turn of the file after the other, until there is no event left.
+// One turn of the file after the other, until there is no event left: by records, so no `for` counts them, and the number is the line's.
 pub fn put_lines(file: &[u8], out: &mut [u8]) -> usize
     requires { file_refusal file.now ≡ 0 }
     ensures { Put out.old out.new 0 result (lines 1 (run (events_of file.now) empty)) }
@@ -21,20 +22,17 @@ pub fn put_lines(file: &[u8], out: &mut [u8]) -> usize
     let mut number: u64 = 1;
     loop {
         let read = step(file, offset);
-        let found = read.found;
-        let Found::Record(event) = found else {
+        let Found::Record(event) = read.found else {
             return at;
         };
-        let answered = machine.dispatch(event);
-        machine = answered.machine;
-        let running = machine.running;
+        let answer = machine.dispatch(event);
         at = put_key_line(
             out,
             at,
             number,
-            answered.refusal,
-            running,
-            answered.links as u64,
+            Refusal::number_in(answer),
+            machine.running,
+            u64::from(answer.unwrap_or(0)),
         );
         offset = read.offset;
         number += 1;

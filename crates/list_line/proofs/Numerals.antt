@@ -1,91 +1,85 @@
--- Words by their bytes: equal as long as each byte is; a number that passes 65,535 stays above it, whatever digits follow.
+-- Words by their bytes: digits, the number that they make, and names.
 use Prim.Native.Nat.{ℕ, suc, ◌+◌, ◌-◌, ◌*◌, ◌≤◌, ◌<◌}
 use native.Mathlib.Omega.{arith}
 use native.Mathlib.Numerals.{add-one}
-use mathlib.Core.Path.{◌≡◌, refl, sym, ap, ◌∙◌}
-use mathlib.Core.Bool.{Bool, true, false, cond, ◌&&◌}
+use mathlib.Core.Path.{◌≡◌, refl, ap}
+use mathlib.Core.Bool.{Bool, true, false, ◌&&◌}
 use mathlib.Core.List.{List, [], ◌∷◌}
 use lib.ListN.{length, get_or, drop, drop_of_length-le}
 use lib.Seq.{drop-cons}
 use lib.Dec.{leb, eqb}
-use borrow.Author.Tests.{le-leb, lt-leb, leb-true, leb-false, eq-eqb, ne_eqb}
+use borrow.Author.Tests.{leb-true}
 use Rattle.rules.specs.Tests.{all}
-use Rattle.rules.proofs.Basics.Views.{Two, yes_true, no_false, two}
-use Rattle.list_line.specs.Reading.{digit_byte, value_from}
-use Rattle.list_line.specs.Reading as words
-use Rattle.list_line.specs.Scanning.{capped, numeral}
+use Rattle.std.specs.List.{list_all}
+use Rattle.std.specs.Str.{bytes_eq}
+use Rattle.list_line.specs.Reading.{same, digit_byte, value_from, value}
 
--- two words at a place
-module _ (a b : List ℕ) (i : ℕ) (inside : i < length a) (inside' : i < length b) where
-  pub same_next : get_or a i 0 ≡ get_or b i 0 → words.same (drop i a) (drop i b) ≡ words.same (drop (i + 1) a) (drop (i + 1) b)
-  unfolding words.same
-  same_next e = rw (drop-cons a i 0 inside, drop-cons b i 0 inside', eq-eqb _ _ e, add-one) refl
+-- digits only add
+pub grows : (l : List ℕ) (n : ℕ) → n ≤ value_from n l
+unfolding value_from
+grows [] n = omega arith
+grows (b ∷ rest) n = omega (arith, grows rest (n * 10 + (b - 48)))
 
-  pub same_not : (get_or a i 0 ≡ get_or b i 0 → ⊥) → words.same (drop i a) (drop i b) ≡ false
-  unfolding words.same
-  same_not e = rw (drop-cons a i 0 inside, drop-cons b i 0 inside', ne_eqb _ _ e) refl
+-- `all` in std's words
+pub all_is : (test : ℕ → Bool) (l : List ℕ) → list_all test l ≡ all test l
+unfolding all
+all_is test [] = refl
+all_is test (b ∷ rest) = ap (λ (c : Bool). test b && c) (all_is test rest)
 
-pub same_over : (a b : List ℕ) (i : ℕ) → length a ≤ i → length b ≤ i → words.same (drop i a) (drop i b) ≡ true
-unfolding words.same
-same_over a b i h g = rw (drop_of_length-le a h, drop_of_length-le b g) refl
+-- a word is another, in std's words
+pub same_is : (a b : List ℕ) → bytes_eq a b ≡ same a b
+unfolding same
+same_is [] [] = refl
+same_is [] (y ∷ ys) = refl
+same_is (x ∷ xs) [] = refl
+same_is (x ∷ xs) (y ∷ ys) = ap (λ (c : Bool). eqb x y && c) (same_is xs ys)
 
 and_false : (a b : Bool) → b ≡ false → (a && b) ≡ false
 and_false true b e = e
 and_false false b e = refl
 
-pub same_lengths : (a b : List ℕ) → (length a ≡ length b → ⊥) → words.same a b ≡ false
-unfolding words.same
+pub same_lengths : (a b : List ℕ) → (length a ≡ length b → ⊥) → same a b ≡ false
+unfolding same
 same_lengths [] [] h = absurd (h refl)
 same_lengths [] (y ∷ ys) h = refl
 same_lengths (x ∷ xs) [] h = refl
-same_lengths (x ∷ xs) (y ∷ ys) h = and_false (eqb x y) (words.same xs ys) (same_lengths xs ys (λ e. h (ap suc e)))
+same_lengths (x ∷ xs) (y ∷ ys) h = and_false (eqb x y) (same xs ys) (same_lengths xs ys (λ e. h (ap suc e)))
 
--- digits only add
-grows : (l : List ℕ) (n : ℕ) → n ≤ value_from n l
-unfolding value_from
-grows [] n = omega arith
-grows (b ∷ rest) n = omega (arith, grows rest (n * 10 + (b - 48)))
-
-capped_small : (n : ℕ) → n ≤ 65535 → capped n ≡ n
-capped_small n h = rw (le-leb n 65535 h) refl
-
-capped_large : (n : ℕ) → 65535 < n → capped n ≡ 65536
-capped_large n h = rw (lt-leb n 65535 h) refl
-
-capped_value : (l : List ℕ) (n : ℕ) → Two (leb n 65535) → capped (value_from (capped n) l) ≡ capped (value_from n l)
-capped_value l n (yes_true e) = ap (λ (k : ℕ). capped (value_from k l)) (capped_small n (leb-true n 65535 e))
-capped_value l n (no_false e) =
-    let large = leb-false n 65535 e in
-    ap (λ (k : ℕ). capped (value_from k l)) (capped_large n large)
-    ∙ capped_large (value_from 65536 l) (omega (arith, grows l 65536))
-    ∙ sym (capped_large (value_from n l) (omega (arith, grows l n)))
-
--- a number at a place of its word
-module _ (n : ℕ) (word : List ℕ) (i : ℕ) where
-  pub digit_read : i < length word → digit_byte (get_or word i 0) ≡ true
-      → numeral (capped (n * 10 + (get_or word i 0 - 48))) (drop (i + 1) word) ≡ numeral n (drop i word)
-  unfolding numeral all value_from
-  digit_read h e =
-      let m = n * 10 + (get_or word i 0 - 48) in
-      rw (drop-cons word i 0 h, e, add-one)
-      (ap (λ (k : ℕ). cond (all digit_byte (drop (suc i) word)) k 65537) (capped_value (drop (suc i) word) m (two (leb m 65535))))
-
-  pub no_digit : i < length word → digit_byte (get_or word i 0) ≡ false → numeral n (drop i word) ≡ 65537
-  unfolding numeral all
-  no_digit h e = rw (drop-cons word i 0 h, e) refl
-
-  pub digits_over : length word ≤ i → n ≤ 65536 → numeral n (drop i word) ≡ n
-  unfolding numeral all value_from
-  digits_over h small = rw (drop_of_length-le word h) (by (two (leb n 65535)))
-    where
-      by : Two (leb n 65535) → capped n ≡ n
-      by (yes_true e) = rw e refl
-      by (no_false e) = rw e (omega (arith, leb-false n 65535 e))
+both_true : (a b : Bool) → (a && b) ≡ true → (a ≡ true) × (b ≡ true)
+both_true true b e = (refl, e)
+both_true false b e = cc
 
 -- 48 to 57
-pub digit_low : (b : ℕ) → digit_byte b ≡ true → 48 ≤ b
-digit_low b e = by (two (leb 48 b))
-  where
-    by : Two (leb 48 b) → 48 ≤ b
-    by (yes_true h) = leb-true 48 b h
-    by (no_false h) = let bad : false ≡ true = rw h at e in let z : ◌≡◌ {A = ℕ} 0 1 = cc in absurd (omega arith)
+pub record Digit (b : ℕ) : Type 0 where
+  pub low : 48 ≤ b
+  pub high : b ≤ 57
+
+is_digit : (b : ℕ) → digit_byte b ≡ true → Digit b
+is_digit b e =
+    let both = both_true (leb 48 b) (leb b 57) e in
+    record { low = leb-true 48 b both.0; high = leb-true b 57 both.1 }
+
+-- the digit at a place, and those after it
+module _ (l : List ℕ) (i : ℕ) (inside : i < length l) where
+  pub digit_here : all digit_byte (drop i l) ≡ true → Digit (get_or l i 0) × (all digit_byte (drop (i + 1) l) ≡ true)
+  unfolding all
+  digit_here e =
+      let there : (digit_byte (get_or l i 0) && all digit_byte (drop (suc i) l)) ≡ true = rw (drop-cons l i 0 inside) at e in
+      let both = both_true (digit_byte (get_or l i 0)) (all digit_byte (drop (suc i) l)) there in
+      (is_digit _ both.0, rw (add-one i) both.1)
+
+  pub value_here : (n : ℕ) → value_from n (drop i l) ≡ value_from (n * 10 + (get_or l i 0 - 48)) (drop (i + 1) l)
+  unfolding value_from
+  value_here n = rw (drop-cons l i 0 inside, add-one i) refl
+
+  -- what passes 65,535 stays above it
+  pub large_here : (n : ℕ) → value_from n (drop i l) ≡ value l → 65535 < n * 10 + (get_or l i 0 - 48) → 65535 < value l
+  large_here n e h = omega (arith, e, value_here n, grows (drop (i + 1) l) (n * 10 + (get_or l i 0 - 48)))
+
+pub value_over : (l : List ℕ) (i n : ℕ) → length l ≤ i → value_from n (drop i l) ≡ n
+unfolding value_from
+value_over l i n h = rw (drop_of_length-le l h) refl
+
+pub value_starts : (l : List ℕ) → value_from 0 l ≡ value l
+unfolding value
+value_starts l = refl

@@ -1,30 +1,32 @@
 -- A scan finds the first part of a text; the other parts begin after it.
 use Prim.Native.Nat.{ℕ, suc, ◌+◌, ◌-◌, ◌≤◌, ◌<◌}
 use native.Mathlib.Omega.{arith}
-use native.Mathlib.Numerals.{add-one}
 use mathlib.Core.Path.{◌≡◌, refl, sym, ap, ap₂, ◌∙◌}
-use mathlib.Core.Bool.{Bool, true, false, cond}
+use mathlib.Core.Bool.{Bool, true, false, cond, not}
 use mathlib.Core.List.{List, [], ◌∷◌}
 use lib.ListN.{length, get_or, take, drop, length-drop, drop_of_length-le}
+use lib.Dec.{ltb}
 use lib.Seq.{drop-cons, drop-drop}
+use borrow.Author.Tests.{ltb-false}
+use Rattle.std.proofs.Common.{Option, Some, None, max}
+use Rattle.std.proofs.lemmas.List.Recursion.{is_position_or_len}
+use Rattle.std.specs.List.{position_or_len}
 use Rattle.rules.proofs.Basics.Views.{Two, yes_true, no_false, two}
-use Rattle.list_line.specs.declared.scan.Until.TheVariants.{Hash, Blank, Word}
 use Rattle.list_line.specs.Reading.{parts, hash, first_of, uncommented, blank, not_empty, words_of}
-use Rattle.list_line.specs.Scanning.{stops, end_of}
+use Rattle.list_line.specs.Scanning.{end_of}
 
--- at a place: the scan stops here, or goes on, or the text is over
-module _ (test : ℕ → Bool) (l : List ℕ) (i : ℕ) where
-  pub stops_here : i < length l → test (get_or l i 0) ≡ true → end_of test (drop i l) ≡ 0
-  unfolding end_of
-  stops_here h e = rw (drop-cons l i 0 h, e) refl
+-- where the first byte stands that passes, if one does
+pub ends_at : (test : ℕ → Bool) (l : List ℕ) → end_of test l ≡ position_or_len test l
+unfolding end_of
+ends_at test l = is_position_or_len (end_of test) test refl (λ x xs. ap (λ (k : ℕ). cond (test x) 0 k) (omega arith)) l
 
-  pub goes_on : i < length l → test (get_or l i 0) ≡ false → end_of test (drop i l) ≡ suc (end_of test (drop (i + 1) l))
-  unfolding end_of
-  goes_on h e = rw (drop-cons l i 0 h, e, add-one) refl
+found_at : (k size n : ℕ) → Some n ≡ cond (ltb k size) (Some k) None → Two (ltb k size) → n ≡ k
+found_at k size n e (yes_true t) = let same : Some n ≡ Some k = rw t at e in cc
+found_at k size n e (no_false t) = let none : Some n ≡ None = rw t at e in cc
 
-  pub is_over : length l ≤ i → end_of test (drop i l) ≡ 0
-  unfolding end_of
-  is_over h = rw (drop_of_length-le l h) refl
+none_at : (k size : ℕ) → None ≡ cond (ltb k size) (Some k) None → Two (ltb k size) → size ≤ k
+none_at k size e (yes_true t) = let some : None ≡ Some k = rw t at e in cc
+none_at k size e (no_false t) = ltb-false k size t
 
 end_by : (test : ℕ → Bool) (b : ℕ) (rest : List ℕ) → end_of test rest ≤ length rest → Two (test b)
     → end_of test (b ∷ rest) ≤ length (b ∷ rest)
@@ -36,6 +38,18 @@ pub end_within : (test : ℕ → Bool) (l : List ℕ) → end_of test l ≤ leng
 unfolding end_of
 end_within test [] = omega arith
 end_within test (b ∷ rest) = end_by test b rest (end_within test rest) (two (test b))
+
+module _ (test : ℕ → Bool) (l : List ℕ) (at : ℕ) where
+  pub found : {answer : Option ℕ} (n : ℕ) → answer ≡ Some n
+      → answer ≡ cond (ltb (position_or_len test (drop at l)) (length (drop at l))) (Some (position_or_len test (drop at l))) None
+      → n ≡ end_of test (drop at l)
+  found n e f = found_at _ _ n (sym e ∙ f) (two _) ∙ sym (ends_at test (drop at l))
+
+  pub not_found : {answer : Option ℕ} → answer ≡ None
+      → answer ≡ cond (ltb (position_or_len test (drop at l)) (length (drop at l))) (Some (position_or_len test (drop at l))) None
+      → max at (length l) ≡ at + end_of test (drop at l)
+  not_found e f =
+      omega (arith, none_at _ _ (sym e ∙ f) (two _), ends_at test (drop at l), end_within test (drop at l), length-drop at l)
 
 -- a scan from a place inside the text ends inside it
 pub scan_within : (test : ℕ → Bool) (l : List ℕ) (at : ℕ) → at ≤ length l → at + end_of test (drop at l) ≤ length l
@@ -57,34 +71,14 @@ unfolding parts end_of later
 parts_first test [] = refl
 parts_first test (b ∷ rest) = first_by test b rest (parts_first test rest) (two (test b))
 
--- where the scan stopped before the text's end they are those of what stands after that place, else there are none
-more_by : (test : ℕ → Bool) (b : ℕ) (rest : List ℕ)
-    → (end_of test rest < length rest → later test rest ≡ parts test (drop (suc (end_of test rest)) rest)) → Two (test b)
-    → end_of test (b ∷ rest) < length (b ∷ rest) → later test (b ∷ rest) ≡ parts test (drop (suc (end_of test (b ∷ rest))) (b ∷ rest))
-unfolding end_of later
-more_by test b rest ih (yes_true e) h = rw e refl
-more_by test b rest ih (no_false e) h = let shorter : suc (end_of test rest) < suc (length rest) = rw e at h in rw e (ih (omega arith))
-
-pub more_parts : (test : ℕ → Bool) (l : List ℕ) → end_of test l < length l → later test l ≡ parts test (drop (suc (end_of test l)) l)
-unfolding end_of later
-more_parts test [] h = absurd (omega arith)
-more_parts test (b ∷ rest) h = more_by test b rest (more_parts test rest) (two (test b)) h
-
-none_by : (test : ℕ → Bool) (b : ℕ) (rest : List ℕ) → (end_of test rest ≡ length rest → later test rest ≡ []) → Two (test b)
-    → end_of test (b ∷ rest) ≡ length (b ∷ rest) → later test (b ∷ rest) ≡ []
-unfolding end_of later
-none_by test b rest ih (yes_true e) h = let nothing : 0 ≡ suc (length rest) = rw e at h in absurd (omega arith)
-none_by test b rest ih (no_false e) h = let all : suc (end_of test rest) ≡ suc (length rest) = rw e at h in rw e (ih (omega arith))
-
-pub no_more_parts : (test : ℕ → Bool) (l : List ℕ) → end_of test l ≡ length l → later test l ≡ []
-unfolding end_of later
-no_more_parts test [] h = refl
-no_more_parts test (b ∷ rest) h = none_by test b rest (no_more_parts test rest) (two (test b)) h
-
 -- a line without its comment
-pub uncommented_is : (l : List ℕ) → uncommented l ≡ take (end_of (stops Hash) l) l
+pub uncommented_is : (l : List ℕ) → uncommented l ≡ take (end_of hash l) l
 unfolding uncommented
 uncommented_is l = ap first_of (parts_first hash l)
+
+-- a word begins at a byte that is no blank
+abbrev pub begins : ℕ → Bool
+begins b = not (blank b)
 
 -- blanks before a word
 blank_skipped : (b : ℕ) (rest : List ℕ) → blank b ≡ true → words_of (b ∷ rest) ≡ words_of rest
@@ -109,7 +103,7 @@ word_begins b rest e =
     rw (e, parts_first blank rest) (ap (λ (ws : List (List ℕ)). (b ∷ take (end_of blank rest) rest) ∷ ws) (later_words rest))
 
 abbrev after_blanks : List ℕ → List ℕ
-after_blanks l = drop (end_of (stops Word) l) l
+after_blanks l = drop (end_of begins l) l
 
 skip_by : (b : ℕ) (rest : List ℕ) → words_of rest ≡ words_of (after_blanks rest) → Two (blank b)
     → words_of (b ∷ rest) ≡ words_of (after_blanks (b ∷ rest))
@@ -122,24 +116,24 @@ unfolding end_of
 skipped [] = refl
 skipped (b ∷ rest) = skip_by b rest (skipped rest) (two (blank b))
 
-no_blank_by : (b : ℕ) (rest : List ℕ) → (end_of (stops Word) rest < length rest → blank (get_or rest (end_of (stops Word) rest) 0) ≡ false)
-    → Two (blank b) → end_of (stops Word) (b ∷ rest) < length (b ∷ rest)
-    → blank (get_or (b ∷ rest) (end_of (stops Word) (b ∷ rest)) 0) ≡ false
+no_blank_by : (b : ℕ) (rest : List ℕ) → (end_of begins rest < length rest → blank (get_or rest (end_of begins rest) 0) ≡ false)
+    → Two (blank b) → end_of begins (b ∷ rest) < length (b ∷ rest)
+    → blank (get_or (b ∷ rest) (end_of begins (b ∷ rest)) 0) ≡ false
 unfolding end_of
-no_blank_by b rest ih (yes_true e) h = let shorter : suc (end_of (stops Word) rest) < suc (length rest) = rw e at h in rw e
+no_blank_by b rest ih (yes_true e) h = let shorter : suc (end_of begins rest) < suc (length rest) = rw e at h in rw e
     (ih (omega arith))
 no_blank_by b rest ih (no_false e) h = rw e e
 
-no_blank : (l : List ℕ) → end_of (stops Word) l < length l → blank (get_or l (end_of (stops Word) l) 0) ≡ false
+no_blank : (l : List ℕ) → end_of begins l < length l → blank (get_or l (end_of begins l) 0) ≡ false
 unfolding end_of
 no_blank [] h = absurd (omega arith)
 no_blank (b ∷ rest) h = no_blank_by b rest (no_blank rest) (two (blank b)) h
 
-nothing_left : (l : List ℕ) → length l ≤ end_of (stops Word) l → words_of l ≡ []
+nothing_left : (l : List ℕ) → length l ≤ end_of begins l → words_of l ≡ []
 unfolding words_of not_empty parts
 nothing_left l h = skipped l ∙ rw (drop_of_length-le l h) refl
 
-first_word : (l : List ℕ) (s : ℕ) → s ≡ end_of (stops Word) l → s < length l
+first_word : (l : List ℕ) (s : ℕ) → s ≡ end_of begins l → s < length l
     → words_of l ≡ take (end_of blank (drop s l)) (drop s l) ∷ words_of (drop (end_of blank (drop s l)) (drop s l))
 first_word l s e h =
     let found : blank (get_or l s 0) ≡ false = rw (← e) at (no_blank l (omega arith)) in
@@ -147,14 +141,14 @@ first_word l s e h =
     ∙ rw (drop-cons l s 0 h) (word_begins (get_or l s 0) (drop (suc s) l) found)
 
 -- the words from a place on: none, or one between two scans
-module _ (line : List ℕ) (at start : ℕ) (starts : start ≡ at + end_of (stops Word) (drop at line)) where
+module _ (line : List ℕ) (at start : ℕ) (starts : start ≡ at + end_of begins (drop at line)) where
   pub no_word : length line ≤ start → words_of (drop at line) ≡ []
   no_word h = nothing_left (drop at line) (omega (arith, length-drop at line))
 
-  pub word_there : (end : ℕ) → start < length line → end ≡ start + end_of (stops Blank) (drop start line)
+  pub word_there : (end : ℕ) → start < length line → end ≡ start + end_of blank (drop start line)
       → words_of (drop at line) ≡ take (end - start) (drop start line) ∷ words_of (drop end line)
   word_there end h ends =
-      let s = end_of (stops Word) (drop at line) in
+      let s = end_of begins (drop at line) in
       let there : drop s (drop at line) ≡ drop start line = drop-drop s at line ∙ ap (λ (k : ℕ). drop k line) (sym starts) in
       let size : end - start ≡ end_of blank (drop start line) = omega arith in
       first_word (drop at line) s refl (omega (arith, length-drop at line))
@@ -162,6 +156,6 @@ module _ (line : List ℕ) (at start : ℕ) (starts : start ≡ at + end_of (sto
       ∙ ap₂ (λ (k : ℕ) (l : List ℕ). take k (drop start line) ∷ words_of l) (sym size)
       (drop-drop (end_of blank (drop start line)) start line ∙ ap (λ (k : ℕ). drop k line) (sym ends))
 
-  pub word_within : (end : ℕ) → start < length line → end ≡ start + end_of (stops Blank) (drop start line)
+  pub word_within : (end : ℕ) → start < length line → end ≡ start + end_of blank (drop start line)
       → (start ≤ end) × (end ≤ length line)
-  word_within end h ends = (omega arith, omega (arith, scan_within (stops Blank) line start (omega arith)))
+  word_within end h ends = (omega arith, omega (arith, scan_within blank line start (omega arith)))

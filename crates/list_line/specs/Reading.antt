@@ -6,8 +6,12 @@ use Rattle.rules.specs.declared.Event.{Event}
 use Rattle.rules.specs.declared.Event.TheVariants.{Create, Give, Call, Reply, Block, Wake, Charge, Abort, Refill, Remove, Rank}
 use Rattle.rules.specs.Tests.{all}
 use Rattle.rules.specs.Key.{bytes}
-use Rattle.list_line.specs.declared.Line.{Line}
-use Rattle.list_line.specs.declared.Line.TheVariants.{Empty, One, Wrong}
+
+-- what a line holds: nothing, an event, or a fault by its number
+pub data Line : Type 0 where
+  Empty : Line
+  One : Event → Line
+  Wrong : ℕ → Line
 
 -- the faults and their numbers
 abbrev pub no_such_event : ℕ

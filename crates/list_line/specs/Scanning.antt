@@ -1,54 +1,23 @@
--- How the code reads: by places in the text. But for those of `scan` these definitions stand only in contracts of internal functions.
-use Rattle.std.specs.Prelude.{ℕ, zero, suc, ◌≡◌, List, [], ◌∷◌, Bool, cond, not, drop, leb}
+-- How the code reads: by places in the text, and word by word. But for `end_of` these definitions stand only in contracts of internal
+-- functions.
+use Rattle.std.specs.Prelude.{ℕ, suc, ◌≡◌, List, [], ◌∷◌, Bool, cond, Result}
 use Rattle.rules.specs.declared.Role.{Role}
 use Rattle.rules.specs.declared.Event.{Event}
-use Rattle.rules.specs.Tests.{all}
-use Rattle.list_line.specs.declared.Line.{Line}
-use Rattle.list_line.specs.declared.Line.TheVariants.{One, Wrong}
-use Rattle.list_line.specs.declared.scan.Until.{Until}
-use Rattle.list_line.specs.declared.scan.Until.TheVariants.{LineFeed, Hash, Blank, Word}
-use Rattle.list_line.specs.Reading.{line_feed, hash, blank, words_of, digit_byte, value_from, number, role, last}
-
--- the bytes that a scan stops at
-abbrev pub stops : Until → ℕ → Bool
-stops LineFeed b = line_feed b
-stops Hash b = hash b
-stops Blank b = blank b
-stops Word b = not (blank b)
+use Rattle.list_line.specs.declared.fault.Fault.{Fault}
+use Rattle.list_line.specs.Reading.{Line, One, number, role, last}
+use Rattle.list_line.specs.Faults.{after}
 
 -- how many bytes stand before the first that passes a test
 unfoldable pub end_of : (ℕ → Bool) → List ℕ → ℕ
 end_of test [] = 0
 end_of test (b ∷ rest) = cond (test b) 0 (suc (end_of test rest))
 
--- the number of a word: 65,536 for all above 65,535, 65,537 for a word that is no number
-abbrev pub capped : ℕ → ℕ
-capped n = cond (leb n 65535) n 65536
+-- a number, a role, the end of the words, taken from the words that are left: the fault, or what was taken and the words after it
+pub record TakesNumber (words : List (List ℕ)) (most above : ℕ) (taken : Result ℕ Fault) (left : List (List ℕ)) : Type 0 where
+  pub is : (next : ℕ → List (List ℕ) → Line) → number most above words next ≡ after taken (λ n. next n left)
 
-unfoldable pub numeral : ℕ → List ℕ → ℕ
-numeral n word = cond (all digit_byte word) (capped (value_from n word)) 65537
+pub record TakesRole (words : List (List ℕ)) (taken : Result Role Fault) (left : List (List ℕ)) : Type 0 where
+  pub is : (next : Role → List (List ℕ) → Line) → role words next ≡ after taken (λ r. next r left)
 
--- a fault ends the line
-abbrev pub or_wrong : ℕ → Line → Line
-or_wrong zero line = line
-or_wrong (suc fault) line = Wrong (suc fault)
-
-abbrev pub first_fault : ℕ → ℕ → ℕ
-first_fault zero b = b
-first_fault (suc a) b = suc a
-
--- a number, a role, the end of the words, taken at a place of the line: the fault or what was taken, and the place after it
-pub record TakesNumber (line : List ℕ) (at most above fault value to : ℕ) : Type 0 where
-  pub is : (next : ℕ → List (List ℕ) → Line)
-      → number most above (words_of (drop at line)) next ≡ or_wrong fault (next value (words_of (drop to line)))
-
-pub record TakesRole (line : List ℕ) (at fault : ℕ) (found : Role) (to : ℕ) : Type 0 where
-  pub is : (next : Role → List (List ℕ) → Line)
-      → role (words_of (drop at line)) next ≡ or_wrong fault (next found (words_of (drop to line)))
-
-pub record TakesNothing (line : List ℕ) (at fault : ℕ) : Type 0 where
-  pub is : (e : Event) → last e (words_of (drop at line)) ≡ or_wrong fault (One e)
-
--- the last operand, a number
-pub record TakesLast (line : List ℕ) (at most above fault value : ℕ) : Type 0 where
-  pub is : (make : ℕ → Event) → number most above (words_of (drop at line)) (λ n. last (make n)) ≡ or_wrong fault (One (make value))
+pub record TakesEnd {A : Type 0} (words : List (List ℕ)) (taken : Result A Fault) : Type 0 where
+  pub is : (e : Event) → last e words ≡ after taken (λ _. One e)

@@ -1,62 +1,130 @@
-// Single words: whether one is another, and the number that it is.
-ghost use Rattle.std.specs.Prelude.{◌≡◌, ◌+◌, ◌-◌, ◌*◌, ◌≤◌};
-ghost use Rattle.list_line.specs.Reading.{digit_byte};
+// The words of a line, and what stands after an event's name, taken word by word.
+ghost use Rattle.std.specs.Prelude.{◌≡◌, ◌≤◌, ◌<◌, true, ◌∷◌, [], MatchOption, IfOk};
+ghost use Rattle.rules.specs.Tests.{all};
+ghost use Rattle.list_line.specs.Reading.{blank, digit_byte, value, words_of};
 ghost use Rattle.list_line.specs.Reading as reading;
-ghost use Rattle.list_line.specs.Scanning.{capped, numeral};
+ghost use Rattle.list_line.specs.Faults.{number_of};
+ghost use Rattle.list_line.specs.Scanning.{TakesNumber, TakesRole, TakesEnd};
 
-pub fn same(word: &[u8], other: &[u8]) -> bool
-    ensures { result ≡ reading.same word.now other.now }
+use crate::Fault;
+use crate::scan::scan;
+use rules::Role;
+use std::marker::Model;
+
+fn is_blank(b: u8) -> bool
+    ensures { result ≡ blank b }
 {
-    if word.len() != other.len() {
-        return false;
+    matches!(b, b' ' | b'\t' | b'\r')
+}
+
+// For the events' names: a `match` on eleven byte strings has a goal for each byte of each, and over a dozen of them stay open.
+pub fn same(word: &[u8], name: &[u8]) -> bool
+    ensures { result ≡ reading.same word.now name.now }
+{
+    word == name
+}
+
+fn is_number(word: &[u8]) -> bool
+    ensures { result ≡ all digit_byte word.now }
+{
+    word.iter().all(|b| b.is_ascii_digit())
+}
+
+// The number that a word of digits is, none above 65,535.
+fn value(digits: &[u8]) -> Option<u16>
+    requires { all digit_byte digits.now ≡ true }
+    ensures { MatchOption result (65535 < value digits.now) (λ n. n ≡ value digits.now) }
+{
+    let mut n = 0u16;
+    for b in digits {
+        n = n.checked_mul(10)?.checked_add(u16::from(*b - b'0'))?;
     }
-    let mut i = 0;
-    while i < word.len() {
-        let a = word[i];
-        let b = other[i];
-        if a != b {
-            return false;
+    Some(n)
+}
+
+// The words of a line from a place on.
+#[derive(Drop)]
+pub struct Words<'a> {
+    line: &'a [u8],
+    at: usize,
+}
+
+impl<'a> Model for Words<'a> {
+    ghost use Rattle.std.specs.Prelude.{ℕ, List, drop};
+    ghost use Rattle.list_line.specs.Reading.{words_of};
+
+    ghost Value = { List (List ℕ) };
+
+    ghost view = { λ s. words_of (drop s.at s.line.now) };
+}
+
+impl<'a> Words<'a> {
+    pub fn of(line: &'a [u8]) -> Self
+        ensures { result ≡ words_of line.now }
+    {
+        Words { line, at: 0 }
+    }
+
+    // The next word.
+    pub fn word(&mut self) -> Option<&'a [u8]>
+        ensures { MatchOption result (self.old ≡ []) (λ word. self.old ≡ word.now ∷ self.new) }
+    {
+        let line = self.line;
+        let start = scan(line, self.at, |b| !is_blank(b));
+        if start >= line.len() {
+            return None;
         }
-        i += 1;
+        let end = scan(line, start, is_blank);
+        let word = &line[start..end];
+        self.at = end;
+        Some(word)
     }
-    true
-}
 
-fn is_digit(b: u8) -> bool
-    ensures { result ≡ digit_byte b }
-{
-    if b < 48 {
-        return false;
-    }
-    b <= 57
-}
-
-// One digit more.
-fn longer(n: usize, b: u8) -> usize
-    requires { (n ≤ 65536) × (48 ≤ b) }
-    ensures value { result ≡ capped (n * 10 + (b - 48)) }
-    ensures bounded { result ≤ 65536 }
-{
-    let m = n * 10 + ((b as usize) - 48);
-    if m <= 65535 {
-        return m;
-    }
-    65536
-}
-
-// The number that a word is: 65,536 for all above 65,535, 65,537 for a word that is no number.
-pub fn number(word: &[u8]) -> usize
-    ensures { result ≡ numeral 0 word.now }
-{
-    let mut n = 0;
-    let mut i = 0;
-    while i < word.len() {
-        let b = word[i];
-        if !is_digit(b) {
-            return 65537;
+    pub fn number(&mut self, most: u16, above: Fault) -> Result<u16, Fault>
+        ensures takes { TakesNumber self.old most (number_of above) result self.new }
+        ensures bounded { IfOk result (λ n. n ≤ most) }
+    {
+        let word = self.word().ok_or(Fault::Missing)?;
+        if !is_number(word) {
+            return Err(Fault::Missing);
         }
-        n = longer(n, b);
-        i += 1;
+        match value(word) {
+            Some(n) if n <= most => Ok(n),
+            _ => Err(above),
+        }
     }
-    n
+
+    pub fn byte(&mut self) -> Result<u8, Fault>
+        ensures { TakesNumber self.old 255 4 result self.new }
+    {
+        let n = self.number(255, Fault::Above255)?;
+        Ok(n as u8)
+    }
+
+    pub fn wide(&mut self) -> Result<u16, Fault>
+        ensures { TakesNumber self.old 65535 5 result self.new }
+    {
+        self.number(65535, Fault::Above65535)
+    }
+
+    #[tactic(auto, using(crate::proofs::Numerals::same_lengths), unfolding(crate::specs::Reading::same, rules::specs::Key::bytes))]
+    pub fn role(&mut self) -> Result<Role, Fault>
+        ensures { TakesRole self.old result self.new }
+    {
+        match self.word().ok_or(Fault::Missing)? {
+            b"client" => Ok(Role::Client),
+            b"server" => Ok(Role::Server),
+            _ => Err(Fault::NeitherRole),
+        }
+    }
+
+    // No word is left.
+    pub fn end(&mut self) -> Result<(), Fault>
+        ensures { TakesEnd self.old result }
+    {
+        match self.word() {
+            None => Ok(()),
+            Some(_) => Err(Fault::OneTooMany),
+        }
+    }
 }

@@ -16,8 +16,8 @@ use Rattle.rules.specs.EventFile.{byte, role_byte, fits, all_fit, record_of}
 use Rattle.rules.specs.Key.{bytes}
 use Rattle.rules.proofs.Basics.Views.{and_true_both}
 use Rattle.rules.proofs.Basics.Members.{all_cons}
-use Rattle.list_line.specs.declared.Line.{Line}
-use Rattle.list_line.specs.declared.Line.TheVariants.{Empty, One, Wrong}
+use Rattle.list_line.specs.Reading.{Line}
+use Rattle.list_line.specs.Reading.{Empty, One, Wrong}
 use Rattle.list_line.specs.Reading.{parts, line_feed, words_of, uncommented, digit_byte, value, number, event_named, line_of_words, line_of}
 use Rattle.list_line.specs.Reading as words
 use Rattle.list_text.specs.Reading.{Answer, read, refused, with_event, after_line, read_lines, read_text}

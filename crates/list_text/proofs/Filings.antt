@@ -13,10 +13,10 @@ use Rattle.rules.proofs.Basics.Views.{Two, yes_true, no_false, two}
 use Rattle.rules.proofs.Files.WrittenThenRead.{length-file_of}
 use Rattle.text.specs.Put.{Put}
 use Rattle.text.proofs.Puts.{at_front, reading}
-use Rattle.list_line.specs.declared.Line.{Line}
-use Rattle.list_line.specs.declared.Line.TheVariants.{Empty, One, Wrong}
+use Rattle.list_line.specs.Reading.{Line}
+use Rattle.list_line.specs.Reading.{Empty, One, Wrong}
 use Rattle.list_line.specs.Reading.{parts, line_feed, line_of}
-use Rattle.list_text.specs.declared.Filed.{Filed}
+use Rattle.list_text.specs.Answers.{Filed}
 use Rattle.list_text.specs.Reading.{Answer, read, refused, with_event, after_line, read_lines, line_after, read_text}
 use Rattle.list_text.specs.Answers.{filed_as, buffer_as}
 use Rattle.list_text.specs.Counting.{counted, line_record, lines_records}
@@ -80,10 +80,10 @@ text_good text = by (two (ltb 1048576 (length text)))
     by (no_false e) = rw e (lines_good (parts line_feed text) 1 5 (omega arith) (omega arith))
 
 -- a list that is refused
-pub refused_write : (a : Answer) (filed : Filed) (before : List ℕ) → filed ≡ counted 5 a → (filed.line ≡ 0 → ⊥)
+pub refused_write : (a : Answer) (filed : Filed) (before : List ℕ) → filed ≡ counted 5 a → filed.bytes ≡ 0
     → (filed ≡ filed_as a) × (before ≡ buffer_as a before)
 unfolding filed_as buffer_as
-refused_write (read es) filed before e h = absurd (h (ap (λ (f : Filed). f.line) e))
+refused_write (read es) filed before e h = absurd (omega (arith, h, ap (λ (f : Filed). f.bytes) e))
 refused_write (refused line fault) filed before e h = (e, refl)
 
 -- a list that is read

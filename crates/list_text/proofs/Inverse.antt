@@ -14,8 +14,8 @@ use Rattle.rules.proofs.Basics.Views.{Two, yes_true, no_false, two, and_true_lef
 use Rattle.rules.proofs.Files.Accepting.{accepted}
 use Rattle.rules.proofs.Files.WrittenThenRead.{length-file_of, accepted_back, events_of_back}
 use Rattle.rules.proofs.Files.Inverse.{as_written, events_fit}
-use Rattle.list_line.specs.declared.Line.{Line}
-use Rattle.list_line.specs.declared.Line.TheVariants.{Empty, One, Wrong}
+use Rattle.list_line.specs.Reading.{Line}
+use Rattle.list_line.specs.Reading.{Empty, One, Wrong}
 use Rattle.list_line.specs.Reading.{parts, line_feed, uncommented, not_empty, words_of, event_named, line_of_words, line_of}
 use Rattle.list_writer.specs.Writing.{event_words, text_of, file_text}
 use Rattle.list_writer.proofs.Fitting.{small}

@@ -14,8 +14,8 @@ use Rattle.rules.specs.Tests.{all}
 use Rattle.rules.specs.Key.{bytes, decimal}
 use Rattle.rules.proofs.Basics.Views.{Two, yes_true, no_false, two, Either, first, second, or_true_cases, and_true_left, and_true_right}
 use Rattle.rules.proofs.Basics.Views.{and_true_both}
-use Rattle.list_line.specs.declared.Line.{Line}
-use Rattle.list_line.specs.declared.Line.TheVariants.{One}
+use Rattle.list_line.specs.Reading.{Line}
+use Rattle.list_line.specs.Reading.{One}
 use Rattle.list_line.specs.Reading.{parts, hash, first_of, uncommented, blank, if_some, not_empty, words_of, digit_byte, number}
 use Rattle.list_line.specs.Reading.{event_named, line_of_words, line_of}
 use Rattle.list_line.specs.Reading as words

@@ -14,8 +14,8 @@ use Rattle.rules.specs.declared.Event.TheVariants.{Create, Give, Call, Reply, Bl
 use Rattle.rules.specs.Tests.{all}
 use Rattle.rules.specs.Key.{bytes, decimal}
 use Rattle.rules.proofs.Basics.Views.{and_true_left, and_true_right, and3}
-use Rattle.list_line.specs.declared.Line.{Line}
-use Rattle.list_line.specs.declared.Line.TheVariants.{Empty, One, Wrong}
+use Rattle.list_line.specs.Reading.{Line}
+use Rattle.list_line.specs.Reading.{Empty, One, Wrong}
 use Rattle.list_line.specs.Reading.{digit_byte, value, number, event_named}
 use Rattle.list_line.specs.Reading as words
 use Rattle.list_writer.specs.Writing.{role_word}

@@ -1,9 +1,11 @@
 -- What the functions hand back, and the sentence of a fault.
-use Rattle.std.specs.Prelude.{ℕ, cond, List, ◌++◌, length, drop, eqb}
+use Rattle.std.specs.Prelude.{ℕ, Result, Ok, Err, cond, List, ◌++◌, length, drop, eqb}
 use Rattle.rules.specs.EventFile.{file_of}
 use Rattle.rules.specs.Key.{bytes, decimal}
 use Rattle.list_line.specs.Reading.{no_such_event, number_missing, one_too_many, above255, above65535, neither_role, too_long}
-use Rattle.list_text.specs.declared.Filed.{Filed}
+use Rattle.list_line.specs.declared.fault.Fault.{Fault}
+use Rattle.list_line.specs.Faults.{number_of}
+use Rattle.list_text.specs.declared.WrongLine.{WrongLine}
 use Rattle.list_text.specs.Reading.{Answer, read, refused}
 
 -- what is wrong, by the fault's number
@@ -21,6 +23,17 @@ fault_words fault =
 -- the sentence of a fault
 unfoldable pub sentence : ℕ → ℕ → List ℕ
 sentence line fault = bytes "line " ++ decimal line ++ bytes ": " ++ fault_words fault ++ bytes "\n"
+
+-- what becomes of a list: how many bytes its file has, or the line that is wrong, from 1, and its fault; a line 0 is none
+pub record Filed : Type 0 where
+  pub bytes : ℕ
+  pub line : ℕ
+  pub fault : ℕ
+
+-- what an answer of the code says of it
+abbrev pub filed_in : Result ℕ WrongLine → Filed
+filed_in (Ok bytes) = record { bytes = bytes; line = 0; fault = 0 }
+filed_in (Err wrong) = record { bytes = 0; line = wrong.line; fault = number_of wrong.fault }
 
 -- what writing a list's file hands back: how many bytes it has, or which line is wrong and how
 unfoldable pub filed_as : Answer → Filed

@@ -2,9 +2,7 @@
 use Rattle.std.specs.Prelude.{ℕ, ◌+◌, List, [], ◌∷◌, cond, length, take, ltb}
 use Rattle.rules.specs.declared.Event.{Event}
 use Rattle.rules.specs.EventFile.{record_of}
-use Rattle.list_line.specs.declared.Line.{Line}
-use Rattle.list_line.specs.declared.Line.TheVariants.{Empty, One, Wrong}
-use Rattle.list_line.specs.Reading.{too_long, parts, line_feed, line_of}
+use Rattle.list_line.specs.Reading.{Line, Empty, One, Wrong, too_long, parts, line_feed, line_of}
 
 -- what reading a list gives: the events, or the number of the first line that is wrong and its fault
 pub data Answer : Type 0 where

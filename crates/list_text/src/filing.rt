@@ -1,100 +1,52 @@
 // From a list in words to its file: the list is counted first, and only a list without a fault is written.
-ghost use Rattle.std.specs.Prelude.{◌≡◌, cond, [], ◌∷◌, ◌++◌, ◌≤◌, ◌+◌, ◌-◌, length};
+ghost use Rattle.std.specs.Prelude.{◌≡◌, IfOk, [], ◌∷◌, ◌++◌, ◌≤◌, ◌-◌, length};
 ghost use Rattle.rules.specs.EventFile.{four_bytes};
 ghost use Rattle.text.specs.Put.{Put};
-ghost use Rattle.list_line.specs.Reading.{parts, line_feed};
+ghost use Rattle.list_line.specs.Reading.{parts, line_feed, line_of};
 ghost use Rattle.list_text.specs.Reading.{read_lines, line_after, read_text};
-ghost use Rattle.list_text.specs.Counting.{counted, Counts, lines_records};
+ghost use Rattle.list_text.specs.Answers.{filed_in};
+ghost use Rattle.list_text.specs.Counting.{counted, Counts, line_record, lines_records};
 
-use crate::Filed;
-use crate::records::{put_line, record_length};
-use list_line::scan::{Until, scan};
-use list_line::{Line, line_of};
+use crate::WrongLine;
+use crate::records::put_record;
+use event_file::record_length;
+use list_line::{Fault, line_of};
 use text::put_head;
 
-#[derive(Clone, Copy)]
-pub struct LineCount {
-    pub wrong: bool,
-    pub fault: u8,
-    pub filled: usize,
-}
-
 // One line, where the file so far has `filled` bytes.
-fn count_line(filled: usize, line: Line) -> LineCount
+fn count_line(filled: usize, line: &[u8]) -> Result<usize, Fault>
     requires { filled ≤ 65536 }
-    ensures counts { Counts filled line result.wrong result.fault result.filled }
-    ensures bounded { result.filled ≤ 65536 }
+    ensures counts { Counts filled (line_of line.now) result }
+    ensures bounded { IfOk result (λ n. n ≤ 65536) }
 {
-    match line {
-        Line::Empty => LineCount {
-            wrong: false,
-            fault: 0,
-            filled,
-        },
-        Line::One(event) => {
-            let after = filled + record_length(event);
-            if 65536 < after {
-                return LineCount {
-                    wrong: true,
-                    fault: 7,
-                    filled,
-                };
-            }
-            LineCount {
-                wrong: false,
-                fault: 0,
-                filled: after,
-            }
-        }
-        Line::Wrong(fault) => LineCount {
-            wrong: true,
-            fault,
-            filled,
-        },
+    let Some(event) = line_of(line)? else {
+        return Ok(filled);
+    };
+    let after = filled + record_length(event);
+    if after > 65536 {
+        return Err(Fault::TooLong);
     }
+    Ok(after)
 }
 
 // All lines of a text that is not too long itself.
-fn count_lines(text: &[u8]) -> Filed
+fn count_lines(text: &[u8]) -> Result<usize, WrongLine>
     requires { length text.now ≤ 1048576 }
-    ensures { result ≡ counted 5 (read_lines 1 5 (parts line_feed text.now)) }
+    ensures { filed_in result ≡ counted 5 (read_lines 1 5 (parts line_feed text.now)) }
 {
-    let mut at = 0;
-    let mut line = 1;
     let mut filled = 5;
-    loop {
-        let end = scan(text, at, Until::LineFeed);
-        let read = line_of(&text[at..end]);
-        let count = count_line(filled, read);
-        if count.wrong {
-            return Filed {
-                bytes: 0,
-                line,
-                fault: count.fault,
-            };
+    let mut number = 1;
+    for line in text.split(|b| *b == b'\n') {
+        match count_line(filled, line) {
+            Ok(after) => filled = after,
+            Err(fault) => return Err(WrongLine {
+                line: number,
+                fault,
+            }),
         }
-        filled = count.filled;
-        if end >= text.len() {
-            return Filed {
-                bytes: filled,
-                line: 0,
-                fault: 0,
-            };
-        }
-        at = end + 1;
-        line += 1;
+        number += 1;
     }
-}
-
-fn next_line(line: usize, b: u8) -> usize
-    requires { line ≤ 1048577 }
-    ensures value { result ≡ cond (line_feed b) (line + 1) line }
-    ensures bounded { result ≤ line + 1 }
-{
-    if b == 10 {
-        return line + 1;
-    }
-    line
+    Ok(filled)
 }
 
 // The line of the byte after these.
@@ -102,45 +54,42 @@ fn line_after(text: &[u8]) -> usize
     requires { length text.now ≤ 1048576 }
     ensures { result ≡ line_after 1 text.now }
 {
-    let mut number = 1;
-    let mut i = 0;
-    while i < text.len() {
-        number = next_line(number, text[i]);
-        i += 1;
-    }
-    number
+    1 + text.iter().filter(|b| **b == b'\n').count()
 }
 
 // What a list is refused for, or how many bytes its file has.
-pub fn count(text: &[u8]) -> Filed
-    ensures { result ≡ counted 5 (read_text text.now) }
+pub fn count(text: &[u8]) -> Result<usize, WrongLine>
+    ensures { filed_in result ≡ counted 5 (read_text text.now) }
 {
-    if 1048576 < text.len() {
+    if text.len() > 1048576 {
         let line = line_after(&text[..1048576]);
-        return Filed {
-            bytes: 0,
+        return Err(WrongLine {
             line,
-            fault: 7,
-        };
+            fault: Fault::TooLong,
+        });
     }
     count_lines(text)
+}
+
+// The record of a line's event, nothing for a line without one.
+fn put_line(out: &mut [u8], at: usize, line: &[u8]) -> usize
+    ensures { Put out.old out.new at result (line_record (line_of line.now)) }
+{
+    match line_of(line) {
+        Ok(Some(event)) => put_record(out, at, event),
+        _ => at,
+    }
 }
 
 // The records of all lines.
 fn put_lines(text: &[u8], out: &mut [u8], from: usize) -> usize
     ensures { Put out.old out.new from result (lines_records (parts line_feed text.now)) }
 {
-    let mut at = 0;
     let mut to = from;
-    loop {
-        let end = scan(text, at, Until::LineFeed);
-        let line = line_of(&text[at..end]);
+    for line in text.split(|b| *b == b'\n') {
         to = put_line(out, to, line);
-        if end >= text.len() {
-            return to;
-        }
-        at = end + 1;
     }
+    to
 }
 
 // The file of a list that is counted.

@@ -2,20 +2,22 @@
 // Lists of events in words: what an examiner writes and reads instead of an event file's bytes. Reading is defined in specs/Reading.antt,
 // that of one line in list_line; writing in list_writer. The numbers that a program over this crate needs, how much it must read and how
 // much it must write, are fixed here by contracts.
-ghost use Rattle.std.specs.Prelude.{ℕ, ◌<◌, ◌≡◌, List, ◌++◌, length, take, drop};
+ghost use Rattle.std.specs.Prelude.{ℕ, ◌≡◌, List, ◌++◌, length, take, drop};
 ghost use Rattle.list_text.specs.Reading.{read_text};
-ghost use Rattle.list_text.specs.Answers.{filed_as, buffer_as, sentence};
+ghost use Rattle.list_text.specs.Answers.{filed_in, filed_as, buffer_as, sentence};
 
 mod filing;
 mod records;
 mod sentence;
 
-// What becomes of a list: how many bytes its file has, or the line that is wrong, from 1, and its fault. A line 0 is none.
-#[derive(Clone, Copy)]
-pub struct Filed {
-    pub bytes: usize,
+use list_line::Fault;
+use text::zeros;
+
+// The first line of a list that is wrong, counted from 1, and its fault.
+#[derive(Clone, Copy, Debug, PartialEq, Eq)]
+pub struct WrongLine {
     pub line: usize,
-    pub fault: u8,
+    pub fault: Fault,
 }
 
 // One byte more than a list may have: `enough_of_a_list`, proofs/Enough.antt.
@@ -27,31 +29,22 @@ pub const MOST: usize = 65536;
 // Room for every sentence: `sentence_fits`, proofs/Sentences.antt.
 pub const SENTENCE: usize = 64;
 
-fn list_zeros() -> [u8; LIST]
-    ensures { 1048576 < length result }
-{
-    [0; LIST]
-}
-
 // A buffer for a list that is read. Of an input of any length it holds enough: what becomes of that much becomes of the whole.
 pub fn list_input() -> [u8; LIST]
     ensures { (b : List ℕ) → read_text (take (length result) b) ≡ read_text b }
 {
-    list_zeros()
+    zeros()
 }
 
 // Writes the file of a list into a lent buffer, from its front, and gives the file's length; of a list with a fault the line and the
 // fault, and then no byte changes.
-pub fn write_file(text: &[u8], out: &mut [u8; MOST]) -> Filed
-    ensures { (result ≡ filed_as (read_text text.now))
+pub fn write_file(text: &[u8], out: &mut [u8; MOST]) -> Result<usize, WrongLine>
+    ensures { (filed_in result ≡ filed_as (read_text text.now))
         × (out.new ≡ buffer_as (read_text text.now) out.old) }
 {
-    let filed = filing::count(text);
-    if filed.line != 0 {
-        return filed;
-    }
-    filing::put_file(text, out, filed.bytes);
-    filed
+    let bytes = filing::count(text)?;
+    filing::put_file(text, out, bytes);
+    Ok(bytes)
 }
 
 // Writes the sentence of a line's fault into a lent buffer, from its front, and gives its length. Every other byte stays.

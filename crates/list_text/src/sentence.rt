@@ -4,31 +4,21 @@ ghost use Rattle.list_text.specs.Answers.{fault_words, sentence};
 
 use text::{put_byte, put_bytes, put_decimal};
 
+// By its number, whatever that is: the seven faults alone would ask more of callers.
+#[tactic(auto, unfolding(crate::specs::Answers::fault_words, rules::specs::Key::bytes))]
 fn put_fault(out: &mut [u8], at: usize, fault: u8) -> usize
     ensures { Put out.old out.new at result (fault_words fault) }
 {
-    if fault == 1 {
-        return put_bytes(out, at, b"no such event");
+    match fault {
+        1 => put_bytes(out, at, b"no such event"),
+        2 => put_bytes(out, at, b"a number is missing"),
+        3 => put_bytes(out, at, b"one too many"),
+        4 => put_bytes(out, at, b"above 255"),
+        5 => put_bytes(out, at, b"above 65,535"),
+        6 => put_bytes(out, at, b"neither client nor server"),
+        7 => put_bytes(out, at, b"too long"),
+        _ => put_bytes(out, at, b"nothing is wrong"),
     }
-    if fault == 2 {
-        return put_bytes(out, at, b"a number is missing");
-    }
-    if fault == 3 {
-        return put_bytes(out, at, b"one too many");
-    }
-    if fault == 4 {
-        return put_bytes(out, at, b"above 255");
-    }
-    if fault == 5 {
-        return put_bytes(out, at, b"above 65,535");
-    }
-    if fault == 6 {
-        return put_bytes(out, at, b"neither client nor server");
-    }
-    if fault == 7 {
-        return put_bytes(out, at, b"too long");
-    }
-    put_bytes(out, at, b"nothing is wrong")
 }
 
 // The line's number, what is wrong with it, a line feed.

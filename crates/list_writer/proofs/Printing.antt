@@ -63,12 +63,13 @@ module _ {file before now : List ℕ} {at offset : ℕ} (g : Going file before n
       reading (sym (append-nil g.text) ∙ nothing_left ∙ g.whole) g.put
 
 -- numbers, each with what stands before it
-pub give_in_parts : (t n priority quantum : ℕ)
-    → (bytes "give " ++ decimal t) ++ (bytes " " ++ decimal n) ++ (bytes " " ++ decimal priority) ++ (bytes " " ++ decimal quantum)
+pub give_in_parts : {t n priority quantum a b c d : ℕ} → a ≡ t → b ≡ n → c ≡ priority → d ≡ quantum
+    → (bytes "give " ++ decimal a) ++ (bytes " " ++ decimal b) ++ (bytes " " ++ decimal c) ++ (bytes " " ++ decimal d)
     ≡ event_words (Give t n priority quantum)
 unfolding event_words
-give_in_parts t n priority quantum = simp append_assoc
+give_in_parts e f g h = rw (e, f, g, h) (simp append_assoc)
 
-pub rank_in_parts : (t priority : ℕ) → (bytes "rank " ++ decimal t) ++ (bytes " " ++ decimal priority) ≡ event_words (Rank t priority)
+pub rank_in_parts : {t priority a b : ℕ} → a ≡ t → b ≡ priority
+    → (bytes "rank " ++ decimal a) ++ (bytes " " ++ decimal b) ≡ event_words (Rank t priority)
 unfolding event_words
-rank_in_parts t priority = simp append_assoc
+rank_in_parts e f = rw (e, f) (simp append_assoc)

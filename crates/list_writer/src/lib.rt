@@ -6,7 +6,7 @@ ghost use Rattle.list_writer.specs.Writing.{file_text};
 
 mod writer;
 
-use event_file::reader::file_refusal;
+use event_file::check_file;
 use text::{INPUT, file_buffer, put_file_line};
 
 // Room for the text of every file: `text_fits`, proofs/Room.antt.
@@ -26,9 +26,8 @@ pub fn write_text(file: &[u8], out: &mut [u8; ROOM]) -> usize
     ensures { (result ≡ length (file_text file.now))
         × (out.new ≡ file_text file.now ++ drop (length (file_text file.now)) out.old) }
 {
-    let refusal = file_refusal(file);
-    if refusal != 0 {
-        return put_file_line(out, 0, refusal);
+    if let Err(refusal) = check_file(file) {
+        return put_file_line(out, 0, u8::from(refusal));
     }
     writer::put_events(file, out)
 }

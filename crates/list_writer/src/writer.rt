@@ -10,6 +10,7 @@ use event_file::{Found, step};
 use rules::{Event, Role};
 use text::{put_byte, put_bytes, put_decimal};
 
+#[tactic(auto, unfolding(rules::specs::Key::bytes))]
 fn put_role(out: &mut [u8], at: usize, role: Role) -> usize
     ensures { Put out.old out.new at result (role_word role) }
 {
@@ -30,7 +31,7 @@ fn put_named(out: &mut [u8], at: usize, name: &[u8], n: u64) -> usize
 fn put_create(out: &mut [u8], at: usize, thread: u8, role: Role) -> usize
     ensures { Put out.old out.new at result (event_words (Event.Create thread role)) }
 {
-    let space = put_named(out, at, b"create ", thread as u64);
+    let space = put_named(out, at, b"create ", u64::from(thread));
     let word = put_byte(out, space, b' ');
     put_role(out, word, role)
 }
@@ -45,19 +46,20 @@ fn put_give(
 ) -> usize
     ensures { Put out.old out.new at result (event_words (Event.Give timeslice thread priority quantum)) }
 {
-    let second = put_named(out, at, b"give ", timeslice as u64);
-    let third = put_named(out, second, b" ", thread as u64);
-    let fourth = put_named(out, third, b" ", priority as u64);
-    put_named(out, fourth, b" ", quantum as u64)
+    let second = put_named(out, at, b"give ", u64::from(timeslice));
+    let third = put_named(out, second, b" ", u64::from(thread));
+    let fourth = put_named(out, third, b" ", u64::from(priority));
+    put_named(out, fourth, b" ", u64::from(quantum))
 }
 
 fn put_rank(out: &mut [u8], at: usize, timeslice: u8, priority: u8) -> usize
     ensures { Put out.old out.new at result (event_words (Event.Rank timeslice priority)) }
 {
-    let second = put_named(out, at, b"rank ", timeslice as u64);
-    put_named(out, second, b" ", priority as u64)
+    let second = put_named(out, at, b"rank ", u64::from(timeslice));
+    put_named(out, second, b" ", u64::from(priority))
 }
 
+#[tactic(auto, unfolding(crate::specs::Writing::event_words, rules::specs::Key::bytes))]
 fn put_event(out: &mut [u8], at: usize, event: Event) -> usize
     ensures { Put out.old out.new at result (event_words event) }
 {
@@ -69,14 +71,14 @@ fn put_event(out: &mut [u8], at: usize, event: Event) -> usize
             priority,
             quantum,
         } => put_give(out, at, timeslice, thread, priority, quantum),
-        Event::Call { server } => put_named(out, at, b"call ", server as u64),
+        Event::Call { server } => put_named(out, at, b"call ", u64::from(server)),
         Event::Reply => put_bytes(out, at, b"reply"),
         Event::Block => put_bytes(out, at, b"block"),
-        Event::Wake { thread } => put_named(out, at, b"wake ", thread as u64),
-        Event::Charge { units } => put_named(out, at, b"charge ", units as u64),
-        Event::Abort { thread } => put_named(out, at, b"abort ", thread as u64),
-        Event::Refill { timeslice } => put_named(out, at, b"refill ", timeslice as u64),
-        Event::Remove { thread } => put_named(out, at, b"remove ", thread as u64),
+        Event::Wake { thread } => put_named(out, at, b"wake ", u64::from(thread)),
+        Event::Charge { units } => put_named(out, at, b"charge ", u64::from(units)),
+        Event::Abort { thread } => put_named(out, at, b"abort ", u64::from(thread)),
+        Event::Refill { timeslice } => put_named(out, at, b"refill ", u64::from(timeslice)),
+        Event::Remove { thread } => put_named(out, at, b"remove ", u64::from(thread)),
         Event::Rank {
             timeslice,
             priority,
@@ -100,8 +102,7 @@ pub fn put_events(file: &[u8], out: &mut [u8]) -> usize
     let mut at = 0;
     loop {
         let read = step(file, offset);
-        let found = read.found;
-        let Found::Record(event) = found else {
+        let Found::Record(event) = read.found else {
             return at;
         };
         at = put_event_line(out, at, event);

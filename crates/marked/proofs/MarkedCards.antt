@@ -10,10 +10,9 @@ use Rattle.rules.specs.declared.Event.TheVariants.{Create, Give, Call, Block}
 use Rattle.rules.specs.State.{State, empty}
 use Rattle.rules.specs.Lists.{after}
 use Rattle.rules.proofs.Computing.{computing}
-use Rattle.bridge_card.specs.declared.Reading.{Reading}
-use Rattle.bridge_card.specs.Bits.{bit, number_of}
-use Rattle.bridge_card.specs.Card.{read_refusal, write_refusal, raise_refusal, read, Changed, write, raise, lowest_from, line_to_take}
-use Rattle.bridge_card.specs.Card.{line_cleared, Polled, poll_if, poll}
+use Rattle.bits.specs.Bits.{bit, number_of}
+use Rattle.bridge_card.specs.Card.{read_refusal, write_refusal, raise_refusal, Reading, read, Changed, write, raise, lowest_from}
+use Rattle.bridge_card.specs.Card.{line_to_take, line_cleared, Polled, poll_if, poll}
 use Rattle.bridge_card.specs.Meaning.{Operation, Read, Write, Raise, Poll}
 use Rattle.marked.proofs.MarkedSequences.{All, ◌also◌}
 
@@ -190,6 +189,6 @@ unfoldable pub rows : List Operated
 rows = lowest_first ∷ follows ∷ held ∷ refusals ∷ switched ∷ registers ∷ no_block ∷ []
 
 pub marked : All Meets rows
-unfolding computing rows sayings bit number_of read_refusal write_refusal raise_refusal read write raise lowest_from line_to_take line_cleared
-    poll_if
+unfolding computing rows sayings bit number_of read_refusal write_refusal raise_refusal read write raise lowest_from line_to_take
+    line_cleared poll_if
 marked = refl also refl also refl also refl also refl also refl also refl also tt

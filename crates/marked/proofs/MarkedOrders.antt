@@ -11,10 +11,9 @@ use Rattle.rules.specs.Events.{Answered, offer}
 use Rattle.rules.specs.Lists.{after}
 use Rattle.rules.proofs.Computing.{computing}
 use Rattle.abort_orders.specs.declared.Store.{Store}
-use Rattle.abort_orders.specs.declared.Given.{Given}
 use Rattle.abort_orders.specs.declared.HeldAbort.{HeldAbort}
-use Rattle.abort_orders.specs.Orders.{empty_store, order_refusal, give_abort, give_withdraw, comes_before, insert, aborts_from, held_aborts}
-use Rattle.abort_orders.specs.Orders.{applied, Taken, take_if, take_orders}
+use Rattle.abort_orders.specs.Orders.{empty_store, order_refusal, Given, give_abort, give_withdraw, comes_before, insert, aborts_from}
+use Rattle.abort_orders.specs.Orders.{held_aborts, applied, Taken, take_if, take_orders}
 use Rattle.abort_orders.specs.Meaning.{Step, Happens, OrdersAbort, OrdersWithdraw, TakesOrders}
 use Rattle.marked.proofs.MarkedSequences.{All, ◌also◌}
 

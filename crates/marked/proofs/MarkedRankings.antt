@@ -4,8 +4,7 @@ use Prim.Native.Nat.{ℕ, zero, suc}
 use mathlib.Core.Path.{◌≡◌, refl, ap, ◌∙◌}
 use mathlib.Core.List.{List, [], ◌∷◌, map}
 use Rattle.ranking_table.specs.declared.Row.{Row}
-use Rattle.ranking_table.specs.declared.Answer.{Answer}
-use Rattle.ranking_table.specs.Ranking.{holding, smallest_from, any_bad, refused, accepted, fault, priority_in, answer_by, lookup}
+use Rattle.ranking_table.specs.Ranking.{Answer, holding, smallest_from, any_bad, refused, accepted, fault, priority_in, answer_by, lookup}
 use Rattle.marked.proofs.MarkedSequences.{All, ◌also◌}
 
 -- a table, intervals looked up in it, and the answers

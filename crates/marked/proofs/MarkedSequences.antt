@@ -405,9 +405,9 @@ rows =
     ∷ leader_removed ∷ caller_removed ∷ loop_removed ∷ ranked_in_turn ∷ leader_ranked ∷ follower_ranked ∷ stalled_ranked ∷ []
 
 pub marked : All Meets rows
-unfolding computing lines_text plain_lines_text text plain_text stands places_of last_machine result_of expected K1 two two_prints K2 K3 four
-    four_prints K4 K5 K6 seven seven_prints K7 K8 K9 K10 K11 own_timeslice refilled_in_turn leading leading_prints spent_leader server_removed
-    leader_removed caller_removed loop_removed ranked_in_turn leader_ranked follower_ranked stalled_ranked rows
+unfolding computing lines_text plain_lines_text text plain_text stands places_of last_machine result_of expected K1 two two_prints K2 K3
+    four four_prints K4 K5 K6 seven seven_prints K7 K8 K9 K10 K11 own_timeslice refilled_in_turn leading leading_prints spent_leader
+    server_removed leader_removed caller_removed loop_removed ranked_in_turn leader_ranked follower_ranked stalled_ranked rows
 marked =
     meets K1 refl also meets K2 refl also meets K3 refl also meets K4 refl also meets K5 refl also meets K6 refl also
     meets K7 refl also meets K8 refl also meets K9 refl also meets K10 refl also meets K11 refl also meets own_timeslice refl also

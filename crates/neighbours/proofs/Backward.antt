@@ -1,5 +1,5 @@
 -- The test that each step leads back, as a loop: what is left to ask from an entry on is the whole.
-use Prim.Native.Nat.{ℕ, zero, suc, ◌-◌, ◌≤◌, ◌<◌}
+use Prim.Native.Nat.{ℕ, zero, suc, ◌+◌, ◌-◌, ◌≤◌, ◌<◌}
 use mathlib.Core.Path.{◌≡◌, refl, sym, ◌∙◌}
 use mathlib.Core.Bool.{Bool, true, false, ◌&&◌}
 use native.Mathlib.Omega.{arith}
@@ -38,11 +38,6 @@ module _ (s : Sides) (live left at : ℕ) where
       nowhere true = refl
       nowhere false = refl
 
-  pub goes_on : (t u : ℕ) → Asked s live left at → 0 < left → t ≡ neighbour s.after at → t < limit → u ≡ neighbour s.before t → u ≡ at
-      → Asked s live (left - 1) t
-  goes_on t u a some e low back this =
-      record { whole = sym (step t some e ∙ rw (lt-ltb t limit low, ← back, eq-eqb u at this) refl) ∙ a.whole }
-
   -- after the last step
   close : left ≤ 0 → leads_back left s at ≡ (eqb (neighbour s.after at) sentinel && eqb (neighbour s.before sentinel) at)
   unfolding leads_back
@@ -55,3 +50,13 @@ module _ (s : Sides) (live left at : ℕ) where
   pub closed : (t u : ℕ) → Asked s live left at → left ≤ 0 → t ≡ neighbour s.after at → t ≡ sentinel → u ≡ neighbour s.before sentinel
       → eqb u at ≡ leads_back live s sentinel
   closed t u a none_left e this back = sym (close none_left ∙ rw (← e, eq-eqb t sentinel this, ← back) refl) ∙ a.whole
+
+-- in turn i of the loop `for _ in 0..live`
+pub goes_on : (s : Sides) (live i at : ℕ) (t u : ℕ) → Asked s live (live - i) at → i < live → t ≡ neighbour s.after at → t < limit
+    → u ≡ neighbour s.before t → u ≡ at → Asked s live (live - (i + 1)) t
+goes_on s live i at t u a some e low back this =
+    let less : live - (i + 1) ≡ live - i - 1 = omega arith in
+    record {
+      whole =
+          rw less (sym (step s live (live - i) at t (omega arith) e ∙ rw (lt-ltb t limit low, ← back, eq-eqb u at this) refl) ∙ a.whole);
+    }

@@ -6,13 +6,24 @@ use native.Mathlib.Omega.{arith}
 use native.Mathlib.Numerals.{add-one}
 use lib.ListN.{length, get_or, set, take, drop, replicate, length-append, length-replicate}
 use lib.Seq.{take-suc, drop-cons, append_snoc, length-take-le, set_at, take_at, take_all}
-use lib.Dec.{leb}
-use borrow.Author.Tests.{leb-true, leb-false}
+use mathlib.Core.Bool.{cond}
+use lib.Dec.{leb, ltb}
+use borrow.Author.Tests.{leb-true, leb-false, ltb-true, ltb-false}
+use Rattle.std.proofs.lemmas.List.{get_or_default, get_or_past}
 use Rattle.rules.specs.State.{limit}
 use Rattle.rules.proofs.Basics.Views.{Two, yes_true, no_false, two}
 use Rattle.tables.specs.Turning.{entries_of}
-use Rattle.neighbours.specs.Sides.{sentinel, neighbour}
+use Rattle.neighbours.specs.Sides.{sentinel, room, unlisted, neighbour}
 use Rattle.neighbours.specs.Reading.{turns_from, turns_read, laid_out}
+
+-- an entry read with what stands past the list's own entry
+pub neighbour_is : (side : List ℕ) (t : ℕ) → length side ≡ room → get_or side t unlisted ≡ neighbour side t
+unfolding neighbour
+neighbour_is side t full = go (two (ltb t room))
+  where
+    go : Two (ltb t room) → get_or side t unlisted ≡ cond (ltb t room) (get_or side t 0) unlisted
+    go (yes_true e) = let inside = ltb-true t room e in rw e (get_or_default side t unlisted 0 (omega arith))
+    go (no_false e) = let past = ltb-false t room e in rw e (get_or_past side t unlisted (omega arith))
 
 pub length-turns : (n : ℕ) (after : List ℕ) (t : ℕ) → length (turns_from n after t) ≡ n
 unfolding turns_from
@@ -48,6 +59,18 @@ module _ {A : Type 0} (f : List ℕ → A) (after : List ℕ) (live : ℕ) where
       → f (turns_from (left - 1) after t) ≡ f (t ∷ turns_from (left - 1) after t)
       → Along f after live (left - 1) t
   next left at t a some e same = record { whole = same ∙ here left at t a some e }
+
+  -- in a loop `for _ in 0..n`, in its turn i
+  pub here_for : (n i at t : ℕ) → Along f after live (n - i) at → i < n → t ≡ neighbour after at
+      → f (t ∷ turns_from (n - (i + 1)) after t) ≡ f (turns_read after live)
+  here_for n i at t a short e =
+      let one : n - i - 1 ≡ n - (i + 1) = omega arith in
+      ap (λ (k : ℕ). f (t ∷ turns_from k after t)) (sym one) ∙ here (n - i) at t a (omega arith) e
+
+  pub next_for : (n i at t : ℕ) → Along f after live (n - i) at → i < n → t ≡ neighbour after at
+      → f (turns_from (n - (i + 1)) after t) ≡ f (t ∷ turns_from (n - (i + 1)) after t)
+      → Along f after live (n - (i + 1)) t
+  next_for n i at t a short e same = record { whole = same ∙ here_for n i at t a short e }
 
   -- from the index of an entry
   pub from_index : (left t k : ℕ) → Along f after live left t → k ≡ t → Along f after live left k

@@ -9,33 +9,20 @@ use crate::sides::neighbour;
 pub fn leads_back<'a>(before: &'a [u8; 129], after: &'a [u8; 129], live: u8) -> bool
     ensures { result ≡ leads_back live (sides before.now after.now) sentinel }
 {
-    let mut left = live;
     let mut at: u8 = 128;
-    while 0 < left {
+    for _ in 0..live {
         let t = neighbour(after, at);
-        if 127 < t {
-            return false;
-        }
-        let back = neighbour(before, t);
-        if back != at {
+        if 127 < t || neighbour(before, t) != at {
             return false;
         }
         at = t;
-        left -= 1;
     }
-    let end = neighbour(after, at);
-    if end != 128 {
-        return false;
-    }
-    neighbour(before, 128) == at
+    neighbour(after, at) == 128 && neighbour(before, 128) == at
 }
 
 // What stands in the entries of a timeslice that is not listed.
 pub fn entries_free<'a>(before: &'a [u8; 129], after: &'a [u8; 129], t: u8) -> bool
     ensures { result ≡ (eqb (neighbour_of before.now t) unlisted && eqb (neighbour_of after.now t) unlisted) }
 {
-    if neighbour(before, t) != 255 {
-        return false;
-    }
-    neighbour(after, t) == 255
+    neighbour(before, t) == 255 && neighbour(after, t) == 255
 }

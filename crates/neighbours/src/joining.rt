@@ -1,4 +1,5 @@
-// The changes of the turn order: each touches a few entries and moves none.
+// The changes of the turn order: each touches a few entries and moves none. The sides are two fields of the stored machine, each lent by
+// itself: a struct of both would be a second layout to keep in step.
 ghost use Rattle.std.specs.Prelude.{◌≡◌, ◌&&◌, not, ltb};
 ghost use Rattle.rules.specs.Tests.{member};
 ghost use Rattle.rules.specs.State.{limit};
@@ -31,6 +32,7 @@ pub fn append<'a>(before: &'a mut [u8; 129], after: &'a mut [u8; 129], t: u8)
 }
 
 // The neighbours of a timeslice are joined.
+#[tactic(auto, unfolding(crate::specs::Joining::passed_over))]
 pub(crate) fn pass_over<'a>(before: &'a mut [u8; 129], after: &'a mut [u8; 129], t: u8)
     ensures { sides before.new after.new
         ≡ passed_over t (sides before.old after.old) }

@@ -10,14 +10,10 @@ pub fn laid_out(after: &[u8; 129], live: u8) -> [u8; 128]
     ensures { result ≡ laid_out after.now live }
 {
     let mut order: [u8; 128] = [0; 128];
-    let n = entries(live);
     let mut at: u8 = 128;
-    let mut i: usize = 0;
-    while i < n {
-        let t = neighbour(after, at);
-        order[i] = t;
-        at = t;
-        i += 1;
+    for i in 0..entries(live) {
+        at = neighbour(after, at);
+        order[i] = at;
     }
     order
 }
@@ -26,15 +22,12 @@ pub fn laid_out(after: &[u8; 129], live: u8) -> [u8; 128]
 pub fn lists(after: &[u8; 129], live: u8, t: u8) -> bool
     ensures { result ≡ member t (turns_read after.now live) }
 {
-    let mut left = entries(live);
     let mut at: u8 = 128;
-    while 0 < left {
-        let u = neighbour(after, at);
-        if t == u {
+    for _ in 0..entries(live) {
+        at = neighbour(after, at);
+        if t == at {
             return true;
         }
-        at = u;
-        left -= 1;
     }
     false
 }

@@ -4,15 +4,14 @@ ghost use Rattle.rules.specs.Order.{earlier as earlier_of};
 ghost use Rattle.neighbours.specs.Reading.{turns_read};
 
 use crate::sides::neighbour_at;
-use tables::numbers::{entries, index};
+use tables::numbers::entries;
 
 // One comes before the other in turn order.
 pub(crate) fn earlier(after: &[u8; 129], live: u8, a: u8, b: u8) -> bool
     ensures { result ≡ earlier_of (turns_read after.now live) a b }
 {
-    let mut left = entries(live);
     let mut at: usize = 128;
-    while 0 < left {
+    for _ in 0..entries(live) {
         let t = neighbour_at(after, at);
         if t == b {
             return false;
@@ -20,8 +19,7 @@ pub(crate) fn earlier(after: &[u8; 129], live: u8, a: u8, b: u8) -> bool
         if t == a {
             return true;
         }
-        at = index(t);
-        left -= 1;
+        at = usize::from(t);
     }
     false
 }
@@ -30,11 +28,5 @@ pub(crate) fn earlier(after: &[u8; 129], live: u8, a: u8, b: u8) -> bool
 pub fn stands_above(after: &[u8; 129], live: u8, a: u8, high: u8, b: u8, low: u8) -> bool
     ensures { result ≡ (ltb low high || eqb high low && earlier_of (turns_read after.now live) a b) }
 {
-    if low < high {
-        return true;
-    }
-    if high == low {
-        return earlier(after, live, a, b);
-    }
-    false
+    low < high || high == low && earlier(after, live, a, b)
 }

@@ -1,8 +1,10 @@
 -- COMMAND BY COMMAND: the lines put so far and those of the commands that are left make the whole.
-use Prim.Native.Nat.{ℕ, suc, ◌+◌, ◌-◌, ◌*◌, ◌≤◌, ◌<◌}
+use Prim.Native.Nat.{ℕ, suc, ◌+◌, ◌*◌, ◌≤◌}
 use native.Mathlib.Omega.{arith}
 use mathlib.Core.Path.{◌≡◌, sym, ap, ◌∙◌, subst}
 use mathlib.Core.List.{List, ◌∷◌, ◌++◌}
+use Rattle.std.specs.Result.{result_unwrap_or}
+use Rattle.rules.specs.RefusalNumbers.{number_in, links_in}
 use Rattle.rules.specs.EventFile.{Bytes, or_none, file_refusal, events_of}
 use Rattle.rules.specs.Key.{line}
 use Rattle.event_file.specs.Left.{events_at, Left}
@@ -17,6 +19,7 @@ use Rattle.text.proofs.Putting.{Going, begin, more}
 use Rattle.text.proofs.Putting as putting
 use Rattle.replay.specs.Running.{Ready}
 use Rattle.replay.proofs.Inputs.{file_accepted}
+use Rattle.replay.proofs.Turns.{links_said}
 use Rattle.abort_orders.specs.declared.Store.{Store}
 use Rattle.abort_orders.specs.Orders.{empty_store}
 use Rattle.orders_sheet.specs.declared.Command.{Command}
@@ -26,30 +29,29 @@ use Rattle.orders_sheet.specs.Sheet.{Done, done, stand_after, command_lines, at_
 use Rattle.orders_sheet.specs.Promises.{stand_of, Obeys}
 
 -- the line of what a command did
-its_line : {d : Done} {file : List ℕ} {r : Obeyed} (number : ℕ) → Obeys d file r
-    → line_bytes number r.refusal r.machine.running r.last ≡ line number d.answer
+its_line : {d : Done} {file : List ℕ} {after : Store} {r : Obeyed} (number : ℕ) → Obeys d file after r
+    → line_bytes number (number_in r.answer) r.machine.running (links_in r.answer) ≡ line number d.answer
 unfolding line_bytes line
 its_line {d} {r = r} number o =
-    let answer : record { state = shown r.machine; refusal = r.refusal; links = r.last } ≡ d.answer =
+    let answer : record { state = shown r.machine; refusal = number_in r.answer; links = links_in r.answer } ≡ d.answer =
     λ i. record { state = o.state i; refusal = o.refusal i; links = o.last i } in
     λ i. line number (answer i)
 
 -- and where it leaves the code
-next_stand : {d : Done} {file : List ℕ} {r : Obeyed} → Obeys d file r
-    → stand_of r.store file r.offset r.machine ≡ stand_after d
+next_stand : {d : Done} {file : List ℕ} {after : Store} {r : Obeyed} → Obeys d file after r
+    → stand_of after file r.offset r.machine ≡ stand_after d
 next_stand o =
     let store = o.store in
     let state = o.state in
     let events = ap or_none o.left.reads in
     λ i. record { store = store i; state = state i; events = events i }
 
-next_ready : {d : Done} {file : List ℕ} {r : Obeyed} → Obeys d file r → Ready file r.offset r.machine
+next_ready : {d : Done} {file : List ℕ} {after : Store} {r : Obeyed} → Obeys d file after r → Ready file r.offset r.machine
 next_ready {file = file} {r = r} o =
     record { left = subst (Left file r.offset) (sym (ap or_none o.left.reads)) o.left; sound = o.sound }
 
 pub record Commanding (input file before now : List ℕ) (store : Store) (m : Machine) (offset place left number at : ℕ) : Type 0 where
   pub inside : place + 6 * left ≤ 1531
-  pub few : number + left ≤ 256
   pub ready : Ready file offset m
   pub going : Going before now 0 at (command_lines number (commands_from input place left) (stand_of store file offset m))
       (command_lines 1 (commands_in input) (at_first input))
@@ -68,7 +70,6 @@ command_none input out {file} {store} {m} {left} narrow accepted is-file no-orde
     λ i. command_lines 1 (commands_from input 1 (count i)) (stand i) in
     record {
       inside = omega (arith, count, narrow 0);
-      few = omega (arith, count, narrow 0);
       ready =
           record {
             left = all_left file (ap file_refusal is-file ∙ file_accepted (file_at input) input accepted);
@@ -80,31 +81,30 @@ command_none input out {file} {store} {m} {left} narrow accepted is-file no-orde
 module _ {input file before now : List ℕ} {store : Store} {m : Machine} {offset place left number at : ℕ}
     (x : Commanding input file before now store m offset place left number at) where
   -- one command, and its line
-  pub command_one : 0 < left → {c : Command} {next : List ℕ} {to : ℕ} {r : Obeyed} → c ≡ command_from input place
-      → Obeys (done c (stand_of store file offset m)) file r
-      → Put now next at to (line_bytes number r.refusal r.machine.running r.last)
-      → Commanding input file before next r.store r.machine r.offset (place + 6) (left - 1) (number + 1) to
+  pub command_one : (fewer : ℕ) → left ≡ suc fewer → {c : Command} {next : List ℕ} {after : Store} {refusal last to : ℕ} {r : Obeyed}
+      → c ≡ command_from input place → Obeys (done c (stand_of store file offset m)) file after r
+      → refusal ≡ number_in r.answer → last ≡ result_unwrap_or r.answer 0
+      → Put now next at to (line_bytes number refusal r.machine.running last)
+      → Commanding input file before next after r.machine r.offset (place + 6) fewer (number + 1) to
   unfolding commands_from command_lines
-  command_one some {c} {next} {to} {r} is o p =
+  command_one fewer one {c} {after = after} {r = r} is o said shown_last p =
       let d = done c (stand_of store file offset m) in
-      let one : left ≡ suc (left - 1) = omega arith in
-      let cs = commands_from input (place + 6) (left - 1) in
-      let rest : List ℕ = command_lines (number + 1) cs (stand_of r.store file r.offset r.machine) in
+      let cs = commands_from input (place + 6) fewer in
+      let rest : List ℕ = command_lines (number + 1) cs (stand_of after file r.offset r.machine) in
       let later : command_lines (number + 1) cs (stand_after d) ≡ rest = ap (command_lines (number + 1) cs) (sym (next_stand o)) in
       let first : command_lines number (commands_from input place left) (stand_of store file offset m)
       ≡ command_lines number (c ∷ cs) (stand_of store file offset m) =
       ap (λ (n : ℕ). command_lines number (commands_from input place n) (stand_of store file offset m)) one
       ∙ ap (λ (z : Command). command_lines number (z ∷ cs) (stand_of store file offset m)) (sym is) in
+      let put = rw (said, shown_last, links_said r.answer) at p in
       record {
         inside = omega (arith, x.inside);
-        few = omega (arith, x.few);
         ready = next_ready o;
-        going = more x.going (line number d.answer) {rest = rest} (reading (its_line number o) p)
+        going = more x.going (line number d.answer) {rest = rest} (reading (its_line number o) put)
             (first ∙ ap (λ (l : List ℕ). line number d.answer ++ l) later);
       }
 
-  pub command_all : left ≤ 0 → Put before now 0 at (command_lines 1 (commands_in input) (at_first input))
+  pub command_all : left ≡ 0 → Put before now 0 at (command_lines 1 (commands_in input) (at_first input))
   unfolding commands_from command_lines
-  command_all out =
-      let none_left : left ≡ 0 = omega arith in
+  command_all none_left =
       putting.done x.going (ap (λ (n : ℕ). command_lines number (commands_from input place n) (stand_of store file offset m)) none_left)

@@ -11,8 +11,8 @@ use Rattle.rules.specs.Lists.{AllRanged}
 use Rattle.rules.proofs.Bounds.{most}
 use Rattle.replay.proofs.Within.{run_within}
 use Rattle.abort_orders.specs.declared.Order.{Order}
-use Rattle.abort_orders.specs.declared.Order.TheVariants.{Abort, Withdraw}
-use Rattle.abort_orders.specs.Orders.{free_slot, order_at, not_above, order_refusal, given_after, give_abort, give_withdraw, held_aborts}
+use Rattle.abort_orders.specs.declared.Order.TheVariants.{Nothing, Abort, Withdraw}
+use Rattle.abort_orders.specs.Orders.{order_at, not_above, order_refusal, given_after, give_abort, give_withdraw, held_aborts}
 use Rattle.abort_orders.specs.Orders.{take_if, take_orders}
 use Rattle.abort_orders.proofs.Inserting.{aborts_few}
 use Rattle.abort_orders.proofs.Aborting.{applied_few, applied_sound}
@@ -21,7 +21,7 @@ use Rattle.orders_sheet.specs.Sheet.{Stand, Done, after_given, after_take, after
 
 -- between two commands
 pub record Steady (w : Stand) : Type 0 where
-  pub full : length w.store.slots ≡ limit
+  pub full : length w.store.orders ≡ limit
   pub sound_now : sound w.state ≡ true
   pub ranged : AllRanged w.events
 
@@ -44,7 +44,7 @@ module _ (w : Stand) (x : Steady w) where
           record {
             steady =
                 record {
-                  full = length-set w.store.slots n (record { order = order }) ∙ x.full;
+                  full = length-set w.store.orders n order ∙ x.full;
                   sound_now = x.sound_now;
                   ranged = x.ranged;
                 };
@@ -63,11 +63,11 @@ module _ (w : Stand) (x : Steady w) where
   unfolding take_if
   take_short =
       let few = applied_few (held_aborts w.store) w.state in
-      let slots = aborts_few 0 w.store.slots in
+      let slots = aborts_few 0 w.store.orders in
       rw x.sound_now record {
         steady =
             record {
-              full = length-replicate limit free_slot;
+              full = length-replicate limit Nothing;
               sound_now = applied_sound (held_aborts w.store) w.state x.sound_now;
               ranged = x.ranged;
             };

@@ -18,7 +18,7 @@ use Rattle.text.proofs.DigitCounts.{eight_long, file_line_length}
 use Rattle.text.proofs.Lengths.{line_within}
 use Rattle.text.proofs.Enough.{enough_of_bytes}
 use Rattle.replay.proofs.Inputs.{refused_small, refused_long}
-use Rattle.abort_orders.specs.Orders.{free_slot}
+use Rattle.abort_orders.specs.declared.Order.TheVariants.{Nothing}
 use Rattle.orders_sheet.specs.Sheet.{command_count, command_from, commands_from, file_at, file_in, input_refusal}
 use Rattle.orders_sheet.specs.Sheet.{Stand, Done, done, stand_after, command_lines, at_first, orders_after, orders}
 use Rattle.orders_sheet.proofs.Inputs.{file_early}
@@ -49,7 +49,7 @@ all_short input at (suc left) number w narrow h x =
 begins_steady : (input : List ℕ) → Bytes input → Steady (at_first input)
 begins_steady input narrow =
     record {
-      full = length-replicate limit free_slot;
+      full = length-replicate limit Nothing;
       sound_now = empty_sound;
       ranged = all_ranged (events_of (file_in input)) (events_fit (file_in input) (bytes_drop (file_at input) input narrow));
     }

@@ -1,5 +1,6 @@
 -- What the functions hand back, of a file, an offset in it, a store and a stored machine.
 use Rattle.std.specs.Prelude.{ℕ, ◌≡◌, List, true}
+use Rattle.rules.specs.RefusalNumbers.{number_in, links_in}
 use Rattle.event_file.specs.Left.{events_at, Left}
 use Rattle.dispatcher.specs.declared.Machine.{Machine}
 use Rattle.dispatcher.specs.Shown.{shown, sound_machine}
@@ -12,10 +13,10 @@ abbrev pub stand_of : Store → List ℕ → ℕ → Machine → Stand
 stand_of store file offset m = record { store = store; state = shown m; events = events_at offset file }
 
 -- a command has done what the definitions say
-pub record Obeys (d : Done) (file : List ℕ) (r : Obeyed) : Type 0 where
-  pub store : r.store ≡ d.store
+pub record Obeys (d : Done) (file : List ℕ) (after : Store) (r : Obeyed) : Type 0 where
+  pub store : after ≡ d.store
   pub state : shown r.machine ≡ d.answer.state
-  pub refusal : r.refusal ≡ d.answer.refusal
-  pub last : r.last ≡ d.answer.links
+  pub refusal : number_in r.answer ≡ d.answer.refusal
+  pub last : links_in r.answer ≡ d.answer.links
   pub left : Left file r.offset d.events
   pub sound : sound_machine r.machine ≡ true

@@ -8,8 +8,7 @@ use Rattle.rules.specs.Key.{line, file_line}
 use Rattle.replay.specs.Behind.{refusal_behind}
 use Rattle.replay.specs.Running.{after_run}
 use Rattle.abort_orders.specs.declared.Store.{Store}
-use Rattle.abort_orders.specs.declared.Given.{Given}
-use Rattle.abort_orders.specs.Orders.{empty_store, give_abort, give_withdraw, Taken, take_orders}
+use Rattle.abort_orders.specs.Orders.{empty_store, Given, give_abort, give_withdraw, Taken, take_orders}
 use Rattle.orders_sheet.specs.declared.Command.{Command}
 
 -- "a byte k; k commands of 6 bytes: op, thread, order number (4, big-endian)"

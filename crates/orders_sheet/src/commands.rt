@@ -7,68 +7,58 @@ use crate::Command;
 use abort_orders::Store;
 use dispatcher::Machine;
 use replay::run_events;
+use rules::Refusal;
 
-// The machine, the store, where the next event begins, and what the line says: its last column is a take's count, or the links of a run.
+// The machine, where the next event begins, and what the line says: why the command is refused, or the last column, which is a
+// take's count or the links of a run.
 #[derive(Clone, Copy)]
 pub(crate) struct Obeyed {
     pub machine: Machine,
-    pub store: Store,
     pub offset: usize,
-    pub refusal: u8,
-    pub last: u64,
+    pub answer: Result<u64, Refusal>,
 }
 
 pub(crate) fn obey(
     command: Command,
-    store: Store,
+    store: &mut Store,
     file: &[u8],
     offset: usize,
     machine: Machine,
 ) -> Obeyed
     requires { Ready file.now offset machine }
-    ensures { Obeys (done command (stand_of store file.now offset machine)) file.now result }
+    ensures { Obeys (done command (stand_of store.old file.now offset machine)) file.now
+        store.new result }
 {
-    if command.op == 0 {
-        let given = store.give_abort(command.thread, command.number);
-        let after = given.store;
-        return Obeyed {
+    // The op stays a number: `done`, specs/Sheet.antt, speaks of a `Command` as it is read.
+    match command.op {
+        0 => Obeyed {
             machine,
-            store: after,
             offset,
-            refusal: given.refusal,
-            last: 0,
-        };
-    }
-    if command.op == 1 {
-        let given = store.give_withdraw(command.thread, command.number);
-        let after = given.store;
-        return Obeyed {
+            answer: store.give_abort(command.thread, command.number).map(|()| 0),
+        },
+        1 => Obeyed {
             machine,
-            store: after,
             offset,
-            refusal: given.refusal,
-            last: 0,
-        };
-    }
-    if command.op == 2 {
-        let taken = store.take(machine);
-        let left = taken.machine;
-        let after = taken.store;
-        return Obeyed {
-            machine: left,
-            store: after,
-            offset,
-            refusal: taken.refusal,
-            last: taken.count as u64,
-        };
-    }
-    let ran = run_events(file, offset, machine, command.thread);
-    let left = ran.machine;
-    Obeyed {
-        machine: left,
-        store,
-        offset: ran.offset,
-        refusal: 0,
-        last: ran.links,
+            answer: store
+                .give_withdraw(command.thread, command.number)
+                .map(|()| 0),
+        },
+        2 => {
+            let taken = store.take(machine);
+            *store = taken.store;
+            Obeyed {
+                machine: taken.machine,
+                offset,
+                answer: taken.answer.map(u64::from),
+            }
+        }
+        _ => {
+            let ran = run_events(file, offset, machine, command.thread);
+            Obeyed {
+                machine: ran.machine,
+                offset: ran.offset,
+                answer: Ok(ran.links),
+            }
+        }
     }
 }

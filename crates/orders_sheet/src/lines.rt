@@ -1,5 +1,5 @@
 // "Each command prints a key line".
-ghost use Rattle.std.specs.Prelude.{◌<◌, ◌≡◌};
+ghost use Rattle.std.specs.Prelude.{◌≡◌};
 ghost use Rattle.text.specs.Put.{Put};
 ghost use Rattle.orders_sheet.specs.Sheet.{input_refusal, file_in, commands_in, at_first, command_lines};
 
@@ -8,6 +8,7 @@ use crate::reading::command_from;
 use abort_orders::Store;
 use dispatcher::Machine;
 use event_file::byte_at;
+use rules::Refusal;
 use text::put_key_line;
 
 // One command after the other; store, machine and the place in the file go from each to the next.
@@ -20,20 +21,21 @@ pub(crate) fn put_commands(out: &mut [u8], input: &[u8], file: &[u8]) -> usize
     let mut machine = Machine::empty();
     let mut offset = 5;
     let mut place = 1;
-    let mut left = byte_at(input, 0);
-    let mut number: u64 = 1;
     let mut at = 0;
-    while 0 < left {
+    for number in 1..=u64::from(byte_at(input, 0)) {
         let command = command_from(input, place);
-        let done = obey(command, store, file, offset, machine);
+        let done = obey(command, &mut store, file, offset, machine);
         machine = done.machine;
-        let running = machine.running;
-        at = put_key_line(out, at, number, done.refusal, running, done.last);
-        store = done.store;
+        at = put_key_line(
+            out,
+            at,
+            number,
+            Refusal::number_in(done.answer),
+            machine.running,
+            done.answer.unwrap_or(0),
+        );
         offset = done.offset;
         place += 6;
-        left -= 1;
-        number += 1;
     }
     at
 }

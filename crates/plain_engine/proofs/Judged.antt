@@ -1,67 +1,41 @@
 -- Judging along the turn order from its back: one timeslice more, taken if it may run, gives the topmost of one more.
-use Prim.Native.Nat.{ℕ, suc, ◌-◌, ◌≤◌, ◌<◌}
+use Prim.Native.Nat.{ℕ}
+use mathlib.Core.Path.{◌≡◌, refl, sym, ap, ◌∙◌}
+use mathlib.Core.List.{List, [], ◌∷◌, ◌++◌, append-nil, append_assoc}
+use lib.ListN.{length}
 use native.Mathlib.Omega.{arith}
-use mathlib.Core.Path.{◌≡◌, sym, ap, ◌∙◌}
-use mathlib.Core.List.{List}
-use mathlib.Core.Bool.{Bool, true, false, cond}
-use mathlib.Core.Option.{Option}
-use lib.ListN.{length, get_or, take, drop}
+use mathlib.Core.Bool.{Bool, true, false}
 use Rattle.rules.specs.declared.Slice.{Slice}
-use Rattle.rules.specs.declared.Thread.{Thread}
 use Rattle.rules.specs.Order.{upper, topmost}
-use Rattle.rules.specs.Walk.{may_run}
-use Rattle.tables.specs.declared.order.Sought.{Sought}
-use Rattle.tables.specs.declared.order.Sought.TheVariants.{Nothing}
+use Rattle.std.specs.Prelude as std
+use Rattle.std.specs.Prelude.{None}
 use Rattle.tables.specs.Sets.{sought_of}
-use Rattle.tables.specs.Turning.{entries_of}
-use Rattle.tables.proofs.Lookups.{turn, turns_out}
 
-module _ (threads : List Thread) (slices : List Slice) (order : List ℕ) (live : ℕ) where
-  abbrev top_from : ℕ → Option ℕ
-  top_from i = topmost slices (λ t. may_run threads slices t) (drop i (take live order))
+module _ (slices : List Slice) (runs : ℕ → Bool) (turns : List ℕ) where
+  -- of those that `rest` has before them the topmost is known
+  pub record Judged (rest : List ℕ) (top : std.Option ℕ) : Type 0 where
+    pub judged : List ℕ
+    pub whole : rest ++ judged ≡ turns
+    pub found : sought_of top ≡ topmost slices runs judged
 
-  -- the topmost of those from entry i on
-  pub record JudgedFrom (i : ℕ) (top : Sought) : Type 0 where
-    pub inside : i ≤ entries_of live
-    pub found : sought_of top ≡ top_from i
+  pub none_judged : (rest : List ℕ) → rest ≡ turns → Judged rest None
+  unfolding topmost
+  none_judged rest e = record { judged = []; whole = append-nil rest ∙ e; found = refl }
 
-  module _ (full : length order ≡ 128) where
-    pub none_judged : (i : ℕ) → i ≡ entries_of live → JudgedFrom i Nothing
+  -- the last of those that are left is judged
+  module _ (rest : List ℕ) (top : std.Option ℕ) (j : Judged rest top) (t : ℕ) (rest' : List ℕ) (last : rest ≡ rest' ++ (t ∷ [])) where
+    whole' : rest' ++ (t ∷ j.judged) ≡ turns
+    whole' = sym (append_assoc rest' (t ∷ []) j.judged) ∙ ap (λ (l : List ℕ). l ++ j.judged) (sym last) ∙ j.whole
+
+    pub one_taken : (top' : std.Option ℕ) → runs t ≡ true → sought_of top' ≡ upper slices t (sought_of top) → Judged rest' top'
     unfolding topmost
-    none_judged i e =
-        let past : entries_of live ≤ i = omega arith in
-        record {
-          inside = omega arith;
-          found = sym (ap (topmost slices (λ t. may_run threads slices t)) (turns_out order live i full past));
-        }
+    one_taken top' taken e = record { judged = t ∷ j.judged; whole = whole'; found = rw taken (e ∙ ap (upper slices t) j.found) }
 
-    -- the entry before i is judged
-    module _ (i : ℕ) (top : Sought) (j : JudgedFrom i top) (some_left : 0 < i) (may : Bool)
-        (said : may ≡ may_run threads slices (get_or order (i - 1) 0)) where
-      abbrev next : ℕ
-      next = get_or order (i - 1) 0
+    pub one_left : runs t ≡ false → Judged rest' top
+    unfolding topmost
+    one_left left = record { judged = t ∷ j.judged; whole = whole'; found = rw left j.found }
 
-      here : top_from (i - 1) ≡ cond (may_run threads slices next) (upper slices next (top_from i)) (top_from i)
-      unfolding topmost
-      here =
-          let short : i - 1 < entries_of live = omega (arith, j.inside) in
-          let after : suc (i - 1) ≡ i = omega arith in
-          ap (topmost slices (λ t. may_run threads slices t)) (turn order live (i - 1) full short)
-          ∙ ap (λ (k : ℕ). cond (may_run threads slices next) (upper slices next (top_from k)) (top_from k)) after
-
-      pub one_taken : (top' : Sought) → may ≡ true → sought_of top' ≡ upper slices next (sought_of top) → JudgedFrom (i - 1) top'
-      one_taken top' taken e =
-          let runs : may_run threads slices next ≡ true = sym said ∙ taken in
-          record {
-            inside = omega (arith, j.inside);
-            found = e ∙ ap (upper slices next) j.found ∙ sym (rw runs at here);
-          }
-
-      pub one_left : may ≡ false → JudgedFrom (i - 1) top
-      one_left left =
-          let stays : may_run threads slices next ≡ false = sym said ∙ left in
-          record { inside = omega (arith, j.inside); found = j.found ∙ sym (rw stays at here) }
-
-    pub all_judged : (i : ℕ) (top : Sought) → JudgedFrom i top → i ≡ 0
-        → sought_of top ≡ topmost slices (λ t. may_run threads slices t) (take live order)
-    all_judged i top j e = j.found ∙ ap top_from e
+  pub all_judged : (rest : List ℕ) (top : std.Option ℕ) → Judged rest top → length rest ≡ 0
+      → sought_of top ≡ topmost slices runs turns
+  all_judged [] top j none_left = j.found ∙ ap (topmost slices runs) j.whole
+  all_judged (t ∷ rest) top j none_left = absurd (omega arith)

@@ -10,9 +10,8 @@ use Rattle.rules.specs.Plain.{PlainAnswered, empty_plain, plain_offer, plain_off
 use Rattle.rules.specs.Lists.{Ranged, AllRanged}
 use Rattle.rules.proofs.WithoutPlaces.{OfSound, of_empty, of_sound_shaped, of_sound_after, never_1}
 use Rattle.plain_engine.specs.declared.PlainMachine.{PlainMachine}
-use Rattle.plain_engine.specs.declared.Answered.{Answered}
 use Rattle.plain_engine.specs.Shown.{plain_shown, empty_machine}
-use Rattle.plain_engine.specs.Promise.{PlainAnswers}
+use Rattle.plain_engine.specs.Promise.{Answered, PlainAnswers}
 
 -- what the definitions answer to an event offered to the engine
 abbrev pub answer_to : Event → PlainMachine → PlainAnswered

@@ -1,7 +1,7 @@
 -- The clauses asked of every number and of every timeslice are together the whole test of a machine without its places: each side implies
 -- the other.
 use Prim.Native.Nat.{ℕ, ◌<◌}
-use mathlib.Core.Path.{◌≡◌}
+use mathlib.Core.Path.{◌≡◌, ◌∙◌}
 use mathlib.Core.List.{List}
 use mathlib.Core.Bool.{Bool, true, ◌&&◌, ◌||◌}
 use lib.ListN.{length}
@@ -107,3 +107,7 @@ module _ (p : Plain) where
 
     pub whole : joined ≡ shaped p
     whole = same_test joined (shaped p) to_shaped from_shaped
+
+    -- as the code joins them
+    pub whole_of : (r : Bool) → r ≡ joined → r ≡ shaped p
+    whole_of r e = e ∙ whole

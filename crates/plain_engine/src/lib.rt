@@ -5,7 +5,7 @@ ghost use Rattle.std.specs.Prelude.{◌≡◌};
 ghost use Rattle.rules.specs.Sound.{shaped};
 ghost use Rattle.rules.specs.Plain.{plain_offer_if};
 ghost use Rattle.plain_engine.specs.Shown.{empty_machine, plain_shown};
-ghost use Rattle.plain_engine.specs.Promise.{PlainAnswers};
+ghost use Rattle.plain_engine.specs.Promise.{PlainAnswers, answered};
 
 mod judging;
 mod refusals;
@@ -13,7 +13,7 @@ mod shape;
 mod slices;
 mod updates;
 
-use rules::{Event, Running, Slice, Thread};
+use rules::{Event, Refusal, Running, Slice, Thread};
 
 #[derive(Clone, Copy)]
 pub struct PlainMachine {
@@ -25,23 +25,14 @@ pub struct PlainMachine {
     pub running: Running,
 }
 
-// The machine after an event, with the refusal number, 0 for none.
-#[derive(Clone, Copy)]
-pub struct Answered {
-    pub machine: PlainMachine,
-    pub refusal: u8,
-}
-
 impl PlainMachine {
     // No thread, no timeslice and nothing running.
     pub fn empty() -> PlainMachine
         ensures { result ≡ empty_machine }
     {
-        let thread = Thread::FREE;
-        let slice = Slice::FREE;
         PlainMachine {
-            threads: [thread; Thread::LIMIT],
-            slices: [slice; Slice::LIMIT],
+            threads: [Thread::FREE; Thread::LIMIT],
+            slices: [Slice::FREE; Slice::LIMIT],
             order: [0; Slice::LIMIT],
             live: 0,
             running: Running::Nothing,
@@ -50,28 +41,16 @@ impl PlainMachine {
 
     // A machine that is not shaped is refused with 1, and anything else by document 01's list. What is accepted changes the machine, and
     // then every timeslice is judged.
-    pub fn offer(self, e: Event) -> Answered
-        ensures { PlainAnswers (plain_offer_if (shaped (plain_shown self)) e (plain_shown self)) self result }
+    pub fn offer(&mut self, e: Event) -> Result<(), Refusal>
+        ensures { PlainAnswers (plain_offer_if (shaped (plain_shown self.old)) e (plain_shown self.old)) self.old
+            (answered self.new result) }
     {
         if !self.is_shaped() {
-            return self.answered(1);
+            return Err(Refusal::Unsound);
         }
-        let refusal = self.refusal(e);
-        if refusal != 0 {
-            return self.answered(refusal);
-        }
-        let changed = self.updated(e);
-        let machine = changed.judged();
-        machine.answered(0)
-    }
-
-    // The answer with the machine as it is now.
-    pub(crate) fn answered(self, refusal: u8) -> Answered
-        ensures { result ≡ record { machine = self; refusal = refusal } }
-    {
-        Answered {
-            machine: self,
-            refusal,
-        }
+        self.check(e)?;
+        self.update(e);
+        self.judge();
+        Ok(())
     }
 }

@@ -1,255 +1,189 @@
-// Document 01, "Refusals, operation by operation", and the numbers of document 02: the first fitting number, 0 for none.
+// Document 01, "Refusals, operation by operation", and the numbers of document 02: the first that fits.
 ghost use Rattle.std.specs.Prelude.{◌≡◌};
 ghost use Rattle.rules.specs.declared.Event.TheVariants.{Create, Give, Call, Reply, Block, Wake, Charge, Abort, Refill, Remove, Rank};
 ghost use Rattle.rules.specs.Refusals.{refusal as refusal_of};
+ghost use Rattle.rules.specs.RefusalNumbers.{number_in};
 ghost use Rattle.plain_engine.specs.Shown.{plain_shown};
+ghost use Rattle.plain_engine.specs.Refusing.{live_thread, live_timeslice};
 
 use crate::PlainMachine;
-use crate::slices::{owns_one, slice_at};
-use rules::{Event, Role, Running};
+use crate::slices::slice_at;
+use rules::{Event, Hold, Refusal, Role, Running, Slice, Thread};
 use tables::lookup::thread_at;
 use tables::order::member;
-use tables::records::{is_blocked, is_linked, is_server};
+use tables::records::is_linked;
 
 impl PlainMachine {
-    pub(crate) fn refuses_create(self, n: u8, role: Role) -> u8
-        ensures { result ≡ refusal_of (Create n role) (plain_shown self) }
+    // "2 (number above 127)", "4 (no such live thread)"
+    pub(crate) fn live_thread(&self, n: u8) -> Result<Thread, Refusal>
+        ensures { result ≡ live_thread n (plain_shown self.now) }
     {
         if 127 < n {
-            return 2;
+            return Err(Refusal::AboveLimit);
         }
-        let threads = self.threads;
-        let thread = thread_at(threads, n);
-        if thread.live {
-            return 3;
+        let thread = thread_at(self.threads, n);
+        if !thread.live {
+            return Err(Refusal::NotLive);
         }
-        0
+        Ok(thread)
     }
 
-    pub(crate) fn refuses_give(self, t: u8, n: u8, priority: u8, quantum: u16) -> u8
-        ensures { result ≡ refusal_of (Give t n priority quantum) (plain_shown self) }
+    // "2 (timeslice number)", "4 (no such live timeslice)"
+    pub(crate) fn live_timeslice(&self, t: u8) -> Result<Slice, Refusal>
+        ensures { result ≡ live_timeslice t (plain_shown self.now) }
     {
         if 127 < t {
-            return 2;
+            return Err(Refusal::AboveLimit);
         }
+        if !member(self.order, self.live, t) {
+            return Err(Refusal::NotLive);
+        }
+        Ok(slice_at(self.slices, t))
+    }
+
+    pub(crate) fn check_create(&self, n: u8, role: Role) -> Result<(), Refusal>
+        ensures { number_in result ≡ refusal_of (Create n role) (plain_shown self.now) }
+    {
         if 127 < n {
-            return 2;
+            return Err(Refusal::AboveLimit);
         }
-        let order = self.order;
-        let live = self.live;
-        if member(order, live, t) {
-            return 3;
+        if thread_at(self.threads, n).live {
+            return Err(Refusal::InUse);
         }
-        let threads = self.threads;
-        let thread = thread_at(threads, n);
-        if !thread.live {
-            return 4;
+        Ok(())
+    }
+
+    pub(crate) fn check_give(&self, t: u8, n: u8, priority: u8, quantum: u16) -> Result<(), Refusal>
+        ensures { number_in result ≡ refusal_of (Give t n priority quantum) (plain_shown self.now) }
+    {
+        if 127 < t || 127 < n {
+            return Err(Refusal::AboveLimit);
         }
-        let slices = self.slices;
-        if owns_one(slices, order, live, n) {
-            return 13;
+        if member(self.order, self.live, t) {
+            return Err(Refusal::InUse);
+        }
+        self.live_thread(n)?;
+        if self.owns_one(n) {
+            return Err(Refusal::OwnsOne);
         }
         if quantum == 0 {
-            return 12;
+            return Err(Refusal::NoQuantum);
         }
-        0
+        Ok(())
     }
 
-    pub(crate) fn refuses_call(self, server: u8) -> u8
-        ensures { result ≡ refusal_of (Call server) (plain_shown self) }
+    pub(crate) fn check_call(&self, server: u8) -> Result<(), Refusal>
+        ensures { number_in result ≡ refusal_of (Call server) (plain_shown self.now) }
     {
-        let running = self.running;
-        match running {
-            Running::Nothing => 5,
-            Running::Runs {
-                thread: caller,
-                timeslice: _,
-                count: _,
-            } => {
-                if 127 < server {
-                    return 2;
-                }
-                let threads = self.threads;
-                let thread = thread_at(threads, server);
-                if !thread.live {
-                    return 4;
-                }
-                let role = thread.role;
-                if !is_server(role) {
-                    return 6;
-                }
-                if server == caller {
-                    return 7;
-                }
-                0
-            }
+        let Running::Runs { thread: caller, .. } = self.running else {
+            return Err(Refusal::NothingRuns);
+        };
+        if self.live_thread(server)?.role != Role::Server {
+            return Err(Refusal::NotAServer);
         }
+        if server == caller {
+            return Err(Refusal::Itself);
+        }
+        Ok(())
     }
 
-    pub(crate) fn refuses_reply(self) -> u8
-        ensures { result ≡ refusal_of Reply (plain_shown self) }
+    pub(crate) fn check_reply(&self) -> Result<(), Refusal>
+        ensures { number_in result ≡ refusal_of Reply (plain_shown self.now) }
     {
-        let running = self.running;
-        match running {
-            Running::Nothing => 5,
-            Running::Runs {
-                thread: n,
-                timeslice: _,
-                count: _,
-            } => {
-                let threads = self.threads;
-                let thread = thread_at(threads, n);
-                let role = thread.role;
-                if !is_server(role) {
-                    return 8;
-                }
-                0
-            }
+        let Running::Runs { thread: server, .. } = self.running else {
+            return Err(Refusal::NothingRuns);
+        };
+        if thread_at(self.threads, server).role != Role::Server {
+            return Err(Refusal::RunsAClient);
         }
+        Ok(())
     }
 
-    pub(crate) fn refuses_block(self) -> u8
-        ensures { result ≡ refusal_of Block (plain_shown self) }
+    pub(crate) fn check_block(&self) -> Result<(), Refusal>
+        ensures { number_in result ≡ refusal_of Block (plain_shown self.now) }
     {
-        let running = self.running;
-        match running {
-            Running::Nothing => 5,
-            Running::Runs {
-                thread: _,
-                timeslice: _,
-                count: _,
-            } => 0,
+        if self.running == Running::Nothing {
+            return Err(Refusal::NothingRuns);
         }
+        Ok(())
     }
 
-    pub(crate) fn refuses_wake(self, n: u8) -> u8
-        ensures { result ≡ refusal_of (Wake n) (plain_shown self) }
+    pub(crate) fn check_wake(&self, n: u8) -> Result<(), Refusal>
+        ensures { number_in result ≡ refusal_of (Wake n) (plain_shown self.now) }
     {
-        if 127 < n {
-            return 2;
+        if self.live_thread(n)?.hold != Hold::Blocked {
+            return Err(Refusal::NotBlocked);
         }
-        let threads = self.threads;
-        let thread = thread_at(threads, n);
-        if !thread.live {
-            return 4;
-        }
-        let hold = thread.hold;
-        if !is_blocked(hold) {
-            return 9;
-        }
-        0
+        Ok(())
     }
 
-    pub(crate) fn refuses_charge(self, units: u16) -> u8
-        ensures { result ≡ refusal_of (Charge units) (plain_shown self) }
+    pub(crate) fn check_charge(&self, units: u16) -> Result<(), Refusal>
+        ensures { number_in result ≡ refusal_of (Charge units) (plain_shown self.now) }
     {
-        let running = self.running;
-        match running {
-            Running::Nothing => 5,
-            Running::Runs {
-                thread: _,
-                timeslice: t,
-                count: _,
-            } => {
-                if units == 0 {
-                    return 11;
-                }
-                let slices = self.slices;
-                let x = slice_at(slices, t);
-                if x.left < units {
-                    return 11;
-                }
-                0
-            }
+        let Running::Runs { timeslice: t, .. } = self.running else {
+            return Err(Refusal::NothingRuns);
+        };
+        if units == 0 || slice_at(self.slices, t).left < units {
+            return Err(Refusal::BadCharge);
         }
+        Ok(())
     }
 
-    pub(crate) fn refuses_abort(self, n: u8) -> u8
-        ensures { result ≡ refusal_of (Abort n) (plain_shown self) }
+    pub(crate) fn check_abort(&self, n: u8) -> Result<(), Refusal>
+        ensures { number_in result ≡ refusal_of (Abort n) (plain_shown self.now) }
     {
-        if 127 < n {
-            return 2;
+        if !is_linked(self.live_thread(n)?.hold) {
+            return Err(Refusal::NotLinked);
         }
-        let threads = self.threads;
-        let thread = thread_at(threads, n);
-        if !thread.live {
-            return 4;
-        }
-        let hold = thread.hold;
-        if !is_linked(hold) {
-            return 10;
-        }
-        0
+        Ok(())
     }
 
-    pub(crate) fn refuses_refill(self, t: u8) -> u8
-        ensures { result ≡ refusal_of (Refill t) (plain_shown self) }
+    pub(crate) fn check_refill(&self, t: u8) -> Result<(), Refusal>
+        ensures { number_in result ≡ refusal_of (Refill t) (plain_shown self.now) }
     {
-        if 127 < t {
-            return 2;
+        if self.live_timeslice(t)?.left != 0 {
+            return Err(Refusal::NotSpent);
         }
-        let order = self.order;
-        if !member(order, self.live, t) {
-            return 4;
-        }
-        let slices = self.slices;
-        let x = slice_at(slices, t);
-        if x.left != 0 {
-            return 18;
-        }
-        0
+        Ok(())
     }
 
-    pub(crate) fn refuses_remove(self, n: u8) -> u8
-        ensures { result ≡ refusal_of (Remove n) (plain_shown self) }
+    pub(crate) fn check_remove(&self, n: u8) -> Result<(), Refusal>
+        ensures { number_in result ≡ refusal_of (Remove n) (plain_shown self.now) }
     {
-        if 127 < n {
-            return 2;
-        }
-        let threads = self.threads;
-        let thread = thread_at(threads, n);
-        if !thread.live {
-            return 4;
-        }
-        0
+        self.live_thread(n)?;
+        Ok(())
     }
 
-    pub(crate) fn refuses_rank(self, t: u8, priority: u8) -> u8
-        ensures { result ≡ refusal_of (Rank t priority) (plain_shown self) }
+    pub(crate) fn check_rank(&self, t: u8, priority: u8) -> Result<(), Refusal>
+        ensures { number_in result ≡ refusal_of (Rank t priority) (plain_shown self.now) }
     {
-        if 127 < t {
-            return 2;
-        }
-        let order = self.order;
-        if !member(order, self.live, t) {
-            return 4;
-        }
-        0
+        self.live_timeslice(t)?;
+        Ok(())
     }
 
-    pub(crate) fn refusal(self, e: Event) -> u8
-        ensures { result ≡ refusal_of e (plain_shown self) }
+    pub(crate) fn check(&self, e: Event) -> Result<(), Refusal>
+        ensures { number_in result ≡ refusal_of e (plain_shown self.now) }
     {
         match e {
-            Event::Create { thread, role } => self.refuses_create(thread, role),
+            Event::Create { thread, role } => self.check_create(thread, role),
             Event::Give {
                 timeslice,
                 thread,
                 priority,
                 quantum,
-            } => self.refuses_give(timeslice, thread, priority, quantum),
-            Event::Call { server } => self.refuses_call(server),
-            Event::Reply => self.refuses_reply(),
-            Event::Block => self.refuses_block(),
-            Event::Wake { thread } => self.refuses_wake(thread),
-            Event::Charge { units } => self.refuses_charge(units),
-            Event::Abort { thread } => self.refuses_abort(thread),
-            Event::Refill { timeslice } => self.refuses_refill(timeslice),
-            Event::Remove { thread } => self.refuses_remove(thread),
+            } => self.check_give(timeslice, thread, priority, quantum),
+            Event::Call { server } => self.check_call(server),
+            Event::Reply => self.check_reply(),
+            Event::Block => self.check_block(),
+            Event::Wake { thread } => self.check_wake(thread),
+            Event::Charge { units } => self.check_charge(units),
+            Event::Abort { thread } => self.check_abort(thread),
+            Event::Refill { timeslice } => self.check_refill(timeslice),
+            Event::Remove { thread } => self.check_remove(thread),
             Event::Rank {
                 timeslice,
                 priority,
-            } => self.refuses_rank(timeslice, priority),
+            } => self.check_rank(timeslice, priority),
         }
     }
 }

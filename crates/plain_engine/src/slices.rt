@@ -1,58 +1,37 @@
-// Timeslices without places: reading, storing and searching them.
-ghost use Rattle.std.specs.Prelude.{◌≡◌, set, take};
+// Timeslices without places: reading and searching them.
+ghost use Rattle.std.specs.Prelude.{◌≡◌, take};
 ghost use Rattle.rules.specs.State.{slice_at};
 ghost use Rattle.rules.specs.Timeslices.{own_of};
 ghost use Rattle.rules.specs.Refusals.{is_one};
 ghost use Rattle.tables.specs.Sets.{sought_of};
 
+use crate::PlainMachine;
 use rules::Slice;
-use tables::numbers::{entries, index};
-use tables::order::Sought;
+use tables::lookup::entry_or;
+use tables::numbers::entries;
 
 pub(crate) fn slice_at(slices: [Slice; 128], t: u8) -> Slice
     ensures { result ≡ slice_at slices t }
 {
-    let k = index(t);
-    if k < 128 {
-        let x = slices[k];
-        return x;
-    }
-    Slice::FREE
+    entry_or(&slices, usize::from(t), Slice::FREE)
 }
 
-pub(crate) fn with_slice(mut slices: [Slice; 128], t: u8, x: Slice) -> [Slice; 128]
-    ensures { result ≡ set slices t x }
-{
-    let k = index(t);
-    if k < 128 {
-        slices[k] = x;
-    }
-    slices
-}
-
-// A thread's own timeslice.
-pub(crate) fn own(slices: [Slice; 128], order: [u8; 128], live: u8, n: u8) -> Sought
-    ensures { sought_of result ≡ own_of slices n (take live order) }
-{
-    let last = entries(live);
-    let mut i: usize = 0;
-    while i < last {
-        let t = order[i];
-        i += 1;
-        let x = slice_at(slices, t);
-        if x.owner == n {
-            return Sought::At(t);
+impl PlainMachine {
+    // A thread's own timeslice.
+    pub(crate) fn own(&self, n: u8) -> Option<u8>
+        ensures { sought_of result ≡ own_of self.now.slices n (take self.now.live self.now.order) }
+    {
+        for &t in &self.order[..entries(self.live)] {
+            if slice_at(self.slices, t).owner == n {
+                return Some(t);
+            }
         }
+        None
     }
-    Sought::Nothing
-}
 
-pub(crate) fn owns_one(slices: [Slice; 128], order: [u8; 128], live: u8, n: u8) -> bool
-    ensures { result ≡ is_one (own_of slices n (take live order)) }
-{
-    let found = own(slices, order, live, n);
-    match found {
-        Sought::Nothing => false,
-        Sought::At(_) => true,
+    pub(crate) fn owns_one(&self, n: u8) -> bool
+        ensures { result ≡ is_one (own_of self.now.slices n (take self.now.live self.now.order)) }
+    {
+        self.own(n).is_some()
     }
 }

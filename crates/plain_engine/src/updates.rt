@@ -1,253 +1,154 @@
 // Document 01, "The plain machine": "An accepted event changes those as under Events, with no release and no choice." What runs is left to
 // the judging that follows, which says it anew: `judge_anew`, in rules.
-ghost use Rattle.std.specs.Prelude.{◌-◌, ◌≤◌, ◌≡◌};
+ghost use Rattle.std.specs.Prelude.{◌≡◌};
 ghost use Rattle.rules.specs.declared.Event.TheVariants.{Create, Give, Call, Reply, Block, Wake, Charge, Abort, Refill, Remove, Rank};
-ghost use Rattle.tables.specs.Turning.{entries_of};
 ghost use Rattle.plain_engine.specs.Changed.{Changed, Takes};
 
 use crate::PlainMachine;
-use crate::slices::{own, slice_at, with_slice};
+use crate::slices::slice_at;
 use rules::{Event, Hold, Role, Running, Slice};
-use tables::lookup::thread_at;
-use tables::numbers::index;
-use tables::order::Sought;
-use tables::records::is_idle;
+use tables::lookup::{thread_at, with_entry};
 use tables::threads::{aborted, created, donated, removed, replied, with_hold};
 use tables::turns::{strike_out, to_back};
 
-// One live entry less. More than the turn order has do not count.
-fn fewer(live: u8) -> u8
-    requires { 1 ≤ live }
-    ensures { result ≡ entries_of live - 1 }
-{
-    if live < 128 {
-        return live - 1;
-    }
-    127
-}
-
 impl PlainMachine {
-    pub(crate) fn updated_create(mut self, n: u8, role: Role) -> PlainMachine
-        ensures { Changed (Create n role) self result }
+    pub(crate) fn update_create(&mut self, n: u8, role: Role)
+        ensures { Changed (Create n role) self.old self.new }
     {
-        let threads = self.threads;
-        let next = created(threads, n, role);
-        self.threads = next;
-        self
+        self.threads = created(self.threads, n, role);
     }
 
-    pub(crate) fn updated_give(mut self, t: u8, n: u8, priority: u8, quantum: u16) -> PlainMachine
-        requires { Takes (Give t n priority quantum) self }
-        ensures { Changed (Give t n priority quantum) self result }
+    pub(crate) fn update_give(&mut self, t: u8, n: u8, priority: u8, quantum: u16)
+        requires { Takes (Give t n priority quantum) self.old }
+        ensures { Changed (Give t n priority quantum) self.old self.new }
     {
-        let slices = self.slices;
         let x = Slice {
             owner: n,
             priority,
             quantum,
             left: quantum,
         };
-        let next = with_slice(slices, t, x);
-        self.slices = next;
-        let live = self.live;
-        let i = index(live);
-        self.order[i] = t;
-        self.live = live + 1;
-        self
+        self.slices = with_entry(self.slices, t, x);
+        self.order[usize::from(self.live)] = t;
+        self.live += 1;
     }
 
     // The caller donates to an Idle server, and helps any other.
-    pub(crate) fn updated_call(mut self, server: u8) -> PlainMachine
-        ensures { Changed (Call server) self result }
+    pub(crate) fn update_call(&mut self, server: u8)
+        ensures { Changed (Call server) self.old self.new }
     {
-        let running = self.running;
-        match running {
-            Running::Nothing => self,
-            Running::Runs {
-                thread: caller,
-                timeslice: _,
-                count: _,
-            } => {
-                let threads = self.threads;
-                let thread = thread_at(threads, server);
-                let hold = thread.hold;
-                if is_idle(hold) {
-                    let next = donated(threads, caller, server);
-                    self.threads = next;
-                    return self;
-                }
-                let next = with_hold(threads, caller, Hold::Helping(server));
-                self.threads = next;
-                self
+        if let Running::Runs { thread: caller, .. } = self.running {
+            if thread_at(self.threads, server).hold == Hold::Idle {
+                self.threads = donated(self.threads, caller, server);
+            } else {
+                self.threads = with_hold(self.threads, caller, Hold::Helping(server));
             }
         }
     }
 
-    pub(crate) fn updated_reply(mut self) -> PlainMachine
-        ensures { Changed Reply self result }
+    pub(crate) fn update_reply(&mut self)
+        ensures { Changed Reply self.old self.new }
     {
-        let running = self.running;
-        match running {
-            Running::Nothing => self,
-            Running::Runs {
-                thread: server,
-                timeslice: _,
-                count: _,
-            } => {
-                let threads = self.threads;
-                let next = replied(threads, server);
-                self.threads = next;
-                self
-            }
+        if let Running::Runs { thread: server, .. } = self.running {
+            self.threads = replied(self.threads, server);
         }
     }
 
-    pub(crate) fn updated_block(mut self) -> PlainMachine
-        ensures { Changed Block self result }
+    pub(crate) fn update_block(&mut self)
+        ensures { Changed Block self.old self.new }
     {
-        let running = self.running;
-        match running {
-            Running::Nothing => self,
-            Running::Runs {
-                thread: n,
-                timeslice: _,
-                count: _,
-            } => {
-                let threads = self.threads;
-                let next = with_hold(threads, n, Hold::Blocked);
-                self.threads = next;
-                self
-            }
+        if let Running::Runs { thread: n, .. } = self.running {
+            self.threads = with_hold(self.threads, n, Hold::Blocked);
         }
     }
 
-    pub(crate) fn updated_wake(mut self, n: u8) -> PlainMachine
-        ensures { Changed (Wake n) self result }
+    pub(crate) fn update_wake(&mut self, n: u8)
+        ensures { Changed (Wake n) self.old self.new }
     {
-        let threads = self.threads;
-        let next = with_hold(threads, n, Hold::Ready);
-        self.threads = next;
-        self
+        self.threads = with_hold(self.threads, n, Hold::Ready);
     }
 
     // At 0 to the back.
-    pub(crate) fn updated_charge(mut self, units: u16) -> PlainMachine
-        requires { Takes (Charge units) self }
-        ensures { Changed (Charge units) self result }
+    pub(crate) fn update_charge(&mut self, units: u16)
+        requires { Takes (Charge units) self.old }
+        ensures { Changed (Charge units) self.old self.new }
     {
-        let running = self.running;
-        match running {
-            Running::Nothing => self,
-            Running::Runs {
-                thread: _,
-                timeslice: t,
-                count: _,
-            } => {
-                let slices = self.slices;
-                let x = slice_at(slices, t);
-                let y = Slice {
-                    left: x.left - units,
-                    ..x
-                };
-                let next = with_slice(slices, t, y);
-                self.slices = next;
-                if x.left == units {
-                    let order = self.order;
-                    let back = to_back(order, self.live, t);
-                    self.order = back;
-                }
-                self
+        if let Running::Runs { timeslice: t, .. } = self.running {
+            let x = slice_at(self.slices, t);
+            let y = Slice {
+                left: x.left - units,
+                ..x
+            };
+            self.slices = with_entry(self.slices, t, y);
+            if y.left == 0 {
+                self.order = to_back(self.order, self.live, t);
             }
         }
     }
 
-    pub(crate) fn updated_abort(mut self, n: u8) -> PlainMachine
-        ensures { Changed (Abort n) self result }
+    pub(crate) fn update_abort(&mut self, n: u8)
+        ensures { Changed (Abort n) self.old self.new }
     {
-        let threads = self.threads;
-        let next = aborted(threads, n);
-        self.threads = next;
-        self
+        self.threads = aborted(self.threads, n);
     }
 
-    pub(crate) fn updated_refill(mut self, t: u8) -> PlainMachine
-        ensures { Changed (Refill t) self result }
+    pub(crate) fn update_refill(&mut self, t: u8)
+        ensures { Changed (Refill t) self.old self.new }
     {
-        let slices = self.slices;
-        let x = slice_at(slices, t);
+        let x = slice_at(self.slices, t);
         let y = Slice {
             left: x.quantum,
             ..x
         };
-        let next = with_slice(slices, t, y);
-        self.slices = next;
-        self
+        self.slices = with_entry(self.slices, t, y);
     }
 
     // The thread's own timeslice is struck out, and its record is free.
-    pub(crate) fn updated_remove(mut self, n: u8) -> PlainMachine
-        ensures { Changed (Remove n) self result }
+    pub(crate) fn update_remove(&mut self, n: u8)
+        ensures { Changed (Remove n) self.old self.new }
     {
-        let threads = self.threads;
-        let rest = removed(threads, n);
-        self.threads = rest;
-        let slices = self.slices;
-        let order = self.order;
-        let live = self.live;
-        let found = own(slices, order, live, n);
-        match found {
-            Sought::Nothing => self,
-            Sought::At(t) => {
-                let slot = Slice::FREE;
-                let next = with_slice(slices, t, slot);
-                self.slices = next;
-                let turns = strike_out(order, live, t);
-                self.order = turns;
-                self.live = fewer(live);
-                self
-            }
+        self.threads = removed(self.threads, n);
+        if let Some(t) = self.own(n) {
+            self.slices = with_entry(self.slices, t, Slice::FREE);
+            self.order = strike_out(self.order, self.live, t);
+            self.live = self.live.min(128) - 1;
         }
     }
 
-    pub(crate) fn updated_rank(mut self, t: u8, priority: u8) -> PlainMachine
-        requires { Takes (Rank t priority) self }
-        ensures { Changed (Rank t priority) self result }
+    pub(crate) fn update_rank(&mut self, t: u8, priority: u8)
+        requires { Takes (Rank t priority) self.old }
+        ensures { Changed (Rank t priority) self.old self.new }
     {
-        let slices = self.slices;
-        let x = slice_at(slices, t);
-        let y = Slice { priority, ..x };
-        let next = with_slice(slices, t, y);
-        self.slices = next;
-        let order = self.order;
-        let back = to_back(order, self.live, t);
-        self.order = back;
-        self
+        let x = slice_at(self.slices, t);
+        self.slices = with_entry(self.slices, t, Slice { priority, ..x });
+        self.order = to_back(self.order, self.live, t);
     }
 
-    pub(crate) fn updated(self, e: Event) -> PlainMachine
-        requires { Takes e self }
-        ensures { Changed e self result }
+    // One arm for each kind, as in `check` and the dispatcher's `dispatch`: the three differ in what they call.
+    pub(crate) fn update(&mut self, e: Event)
+        requires { Takes e self.old }
+        ensures { Changed e self.old self.new }
     {
         match e {
-            Event::Create { thread, role } => self.updated_create(thread, role),
+            Event::Create { thread, role } => self.update_create(thread, role),
             Event::Give {
                 timeslice,
                 thread,
                 priority,
                 quantum,
-            } => self.updated_give(timeslice, thread, priority, quantum),
-            Event::Call { server } => self.updated_call(server),
-            Event::Reply => self.updated_reply(),
-            Event::Block => self.updated_block(),
-            Event::Wake { thread } => self.updated_wake(thread),
-            Event::Charge { units } => self.updated_charge(units),
-            Event::Abort { thread } => self.updated_abort(thread),
-            Event::Refill { timeslice } => self.updated_refill(timeslice),
-            Event::Remove { thread } => self.updated_remove(thread),
+            } => self.update_give(timeslice, thread, priority, quantum),
+            Event::Call { server } => self.update_call(server),
+            Event::Reply => self.update_reply(),
+            Event::Block => self.update_block(),
+            Event::Wake { thread } => self.update_wake(thread),
+            Event::Charge { units } => self.update_charge(units),
+            Event::Abort { thread } => self.update_abort(thread),
+            Event::Refill { timeslice } => self.update_refill(timeslice),
+            Event::Remove { thread } => self.update_remove(thread),
             Event::Rank {
                 timeslice,
                 priority,
-            } => self.updated_rank(timeslice, priority),
+            } => self.update_rank(timeslice, priority),
         }
     }
 }

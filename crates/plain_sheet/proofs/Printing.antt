@@ -17,14 +17,14 @@ use Rattle.rules.proofs.Files.Records.{all_ranged}
 use Rattle.rules.proofs.Files.Inverse.{events_fit}
 use Rattle.rules.proofs.WithoutPlaces.{OfSound, of_empty}
 use Rattle.event_file.specs.declared.reader.Found.{Found}
+use Rattle.event_file.specs.declared.reader.Found.TheVariants.{Record}
 use Rattle.event_file.specs.Answers.{shown_found}
 use Rattle.event_file.specs.contracts.reader.Found.{the_type}
 use Rattle.event_file.specs.Left.{Left}
 use Rattle.event_file.proofs.Steps.{all_left, first, none_left}
 use Rattle.plain_engine.specs.declared.PlainMachine.{PlainMachine}
-use Rattle.plain_engine.specs.declared.Answered.{Answered}
 use Rattle.plain_engine.specs.Shown.{plain_shown, empty_machine}
-use Rattle.plain_engine.specs.Promise.{PlainAnswers}
+use Rattle.plain_engine.specs.Promise.{Answered, PlainAnswers}
 use Rattle.plain_engine.proofs.Runs.{answer_of, as_offered, answered_of_sound}
 use Rattle.text.specs.Put.{Put}
 use Rattle.text.proofs.Puts.{put_none, ◌then◌, reading}
@@ -57,8 +57,12 @@ begin file before m e narrow h =
     }
 
 module _ {file before now : List ℕ} {at offset number : ℕ} {m : PlainMachine} (g : Going file before now at offset number m) where
-  module _ {e : Event} {next : ℕ} {r : Answered} (found : event e ≡ (stepped file offset).found) (moved : next ≡ (stepped file offset).offset)
+  module _ {e : Event} {f : Found} {next : ℕ} {r : Answered} (is : f ≡ Record e)
+      (read : shown_found f ≡ (stepped file offset).found) (moved : next ≡ (stepped file offset).offset)
       (given : PlainAnswers (plain_offer_if (shaped (plain_shown m)) e (plain_shown m)) m r) where
+    found : event e ≡ (stepped file offset).found
+    found = sym (ap shown_found is) ∙ read
+
     -- the next event's line is put, and the machine goes on
     pub printed : {after : List ℕ} {to : ℕ} → Put now after at to (columns number r.refusal r.machine.running ++ bytes "\n")
         → Going file before after to next (number + 1) r.machine

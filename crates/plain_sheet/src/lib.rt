@@ -7,7 +7,7 @@ ghost use Rattle.rules.specs.Key.{plain_key};
 
 mod lines;
 
-use event_file::reader::file_refusal;
+use event_file::check_file;
 use text::{INPUT, file_buffer, put_file_line};
 
 // Room for the key of every file: `plain_fits`, in crate text.
@@ -26,9 +26,8 @@ pub fn write_plain_key(file: &[u8], out: &mut [u8; ROOM]) -> usize
     ensures { (result ≡ length (plain_key file.now))
         × (out.new ≡ plain_key file.now ++ drop (length (plain_key file.now)) out.old) }
 {
-    let refusal = file_refusal(file);
-    if refusal != 0 {
-        return put_file_line(out, 0, refusal);
+    if let Err(refusal) = check_file(file) {
+        return put_file_line(out, 0, u8::from(refusal));
     }
     lines::put_lines(file, out)
 }

@@ -8,7 +8,7 @@ ghost use Rattle.text.specs.Put.{Put};
 
 use event_file::{Found, step};
 use plain_engine::PlainMachine;
-use rules::Running;
+use rules::{Refusal, Running};
 use text::{put_byte, put_columns};
 
 // One event's line: its columns and a line feed.
@@ -19,7 +19,7 @@ fn put_line(out: &mut [u8], at: usize, number: u64, refusal: u8, running: Runnin
     put_byte(out, end, b'\n')
 }
 
-// One event of the file after the other, until there is none left.
+// One event of the file after the other, until there is none left: by records, so no `for` counts them, and the number is the line's.
 pub fn put_lines(file: &[u8], out: &mut [u8]) -> usize
     requires { file_refusal file.now ≡ 0 }
     ensures { Put out.old out.new 0 result (plain_lines 1 (plain_run (events_of file.now) empty_plain)) }
@@ -30,14 +30,11 @@ pub fn put_lines(file: &[u8], out: &mut [u8]) -> usize
     let mut number: u64 = 1;
     loop {
         let read = step(file, offset);
-        let found = read.found;
-        let Found::Record(event) = found else {
+        let Found::Record(event) = read.found else {
             return at;
         };
-        let answered = machine.offer(event);
-        machine = answered.machine;
-        let running = machine.running;
-        at = put_line(out, at, number, answered.refusal, running);
+        let answer = machine.offer(event);
+        at = put_line(out, at, number, Refusal::number_in(answer), machine.running);
         offset = read.offset;
         number += 1;
     }

@@ -9,36 +9,36 @@ use lib.Seq.{take-suc-set}
 use Rattle.ranking_table.specs.declared.Row.{Row}
 use Rattle.ranking_sheet.specs.Sheet.{row_from, rows_from}
 
-pub record Filled (b : List ℕ) (count : ℕ) (rows : List Row) (at k : ℕ) : Type 0 where
+pub record Filled (b : List ℕ) (count : ℕ) (rows : List Row) (k : ℕ) : Type 0 where
   pub size : length rows ≡ 255
   pub few : count ≤ 255
   pub inside : k ≤ count
-  pub place : at ≡ 1 + 5 * k
-  pub all : take k rows ++ rows_from b at (count - k) ≡ rows_from b 1 count
+  pub all : take k rows ++ rows_from b (1 + 5 * k) (count - k) ≡ rows_from b 1 count
 
-pub fill_none : (b : List ℕ) (count : ℕ) (rows : List Row) → length rows ≡ 255 → count ≤ 255 → Filled b count rows 1 0
+pub fill_none : (b : List ℕ) (count : ℕ) (rows : List Row) → length rows ≡ 255 → count ≤ 255 → Filled b count rows 0
 fill_none b count rows size few =
     let none : count - 0 ≡ count = omega arith in
-    record { size = size; few = few; inside = omega arith; place = omega arith; all = ap (rows_from b 1) none }
+    record { size = size; few = few; inside = omega arith; all = ap (rows_from b 1) none }
 
-module _ {b : List ℕ} {count : ℕ} {rows : List Row} {at k : ℕ} (f : Filled b count rows at k) where
-  pub fill_one : k < count → (row : Row) → row ≡ row_from b at → Filled b count (set rows k row) (at + 5) (k + 1)
+module _ {b : List ℕ} {count : ℕ} {rows : List Row} {k : ℕ} (f : Filled b count rows k) where
+  pub fill_one : k < count → (row : Row) → row ≡ row_from b (1 + 5 * k) → Filled b count (set rows k row) (k + 1)
   unfolding rows_from
   fill_one short row is =
       let left : count - k ≡ suc (count - (k + 1)) = omega arith in
+      let place : 1 + 5 * (k + 1) ≡ 1 + 5 * k + 5 = omega arith in
       let first : take (k + 1) (set rows k row) ≡ take k rows ++ (row ∷ []) =
       rw add-one (take-suc-set rows k row (omega (arith, f.size, f.few))) in
-      let rest = rows_from b (at + 5) (count - (k + 1)) in
+      let rest = rows_from b (1 + 5 * (k + 1)) (count - (k + 1)) in
       record {
         size = length-set rows k row ∙ f.size;
         few = f.few;
         inside = omega arith;
-        place = omega (arith, f.place);
         all =
             ap (λ (l : List Row). l ++ rest) first
             ∙ append_assoc (take k rows) (row ∷ []) rest
             ∙ ap (λ (r : Row). take k rows ++ r ∷ rest) is
-            ∙ ap (λ (n : ℕ). take k rows ++ rows_from b at n) (sym left)
+            ∙ ap (λ (at : ℕ). take k rows ++ row_from b (1 + 5 * k) ∷ rows_from b at (count - (k + 1))) place
+            ∙ ap (λ (n : ℕ). take k rows ++ rows_from b (1 + 5 * k) n) (sym left)
             ∙ f.all;
       }
 
@@ -49,5 +49,5 @@ module _ {b : List ℕ} {count : ℕ} {rows : List Row} {at k : ℕ} (f : Filled
       let end : k ≡ count = omega (arith, f.inside) in
       ap (λ (n : ℕ). take n rows) (sym end)
       ∙ sym (append-nil (take k rows))
-      ∙ ap (λ (n : ℕ). take k rows ++ rows_from b at n) (sym none)
+      ∙ ap (λ (n : ℕ). take k rows ++ rows_from b (1 + 5 * k) n) (sym none)
       ∙ f.all

@@ -1,17 +1,23 @@
 -- An input by the tests that it is put to: too long, cut short, half an interval left over, or none of these.
 use Prim.Native.Nat.{ℕ, ◌-◌, ◌%◌, ◌≤◌, ◌<◌}
 use native.Mathlib.Omega.{arith}
-use mathlib.Core.Path.{◌≡◌, refl}
+use mathlib.Core.Path.{◌≡◌, refl, sym, ◌∙◌}
 use mathlib.Core.List.{List}
 use mathlib.Core.Bool.{Bool, true, ◌||◌}
 use lib.Dec.{ltb, eqb}
 use lib.ListN.{length}
 use borrow.Author.Tests.{lt-ltb, le-ltb, eq-eqb, ne_eqb, ltb-true, ltb-false}
 use Rattle.rules.proofs.Basics.Views.{Two, yes_true, no_false, two, or_true_right}
+use Rattle.std.proofs.Common.{rules}
+use Rattle.rules.specs.declared.refusal.Refusal.{Refusal}
+use Rattle.rules.specs.RefusalNumbers.{number_of}
 use Rattle.rules.specs.Key.{file_line}
 use Rattle.text.proofs.Refused.{refused_line}
 use Rattle.ranking_table.specs.declared.Row.{Row}
 use Rattle.ranking_sheet.specs.Sheet.{rows_in, intervals_at, intervals_in, input_refusal, answer_lines, ranking_after, ranking}
+
+number_some : (r : Refusal) → number_of r ≡ 0 → ⊥
+number_some r e = search rules
 
 module _ (b : List ℕ) where
   abbrev long : Bool
@@ -65,9 +71,9 @@ module _ (b : List ℕ) where
         by (no_false e) = ltb-false (length b) (intervals_at b) e
 
   -- a refused input
-  pub refused_ranking : (n : ℕ) → n ≡ input_refusal b → (n ≡ 0 → ⊥) → file_line n ≡ ranking b
+  pub refused_ranking : (r : Refusal) (n : ℕ) → n ≡ number_of r → number_of r ≡ input_refusal b → file_line n ≡ ranking b
   unfolding ranking
-  refused_ranking n e h = refused_line (λ k. ranking_after k b) (λ _. refl) e h
+  refused_ranking r n is e = refused_line (λ k. ranking_after k b) (λ _. refl) (is ∙ e) (λ none. number_some r (sym is ∙ none))
 
   -- an accepted one
   pub accepted_ranking : {rows : List Row} → input_refusal b ≡ 0 → rows ≡ rows_in b → answer_lines rows (intervals_in b) ≡ ranking b

@@ -13,8 +13,7 @@ use Rattle.rules.specs.Key.{bytes, file_line}
 use Rattle.text.proofs.DigitCounts.{two_long, three_long, five_long, file_line_length}
 use Rattle.text.proofs.Enough.{enough_for_one}
 use Rattle.ranking_table.specs.declared.Row.{Row}
-use Rattle.ranking_table.specs.declared.Answer.{Answer}
-use Rattle.ranking_table.specs.Ranking.{lookup}
+use Rattle.ranking_table.specs.Ranking.{Answer, lookup}
 use Rattle.ranking_table.specs.Good.{row_at, Judged, too_many, a_bad_row, overlapping, gaping, good, Outcome, bad_table, outside, found}
 use Rattle.ranking_table.proofs.Rankings.{lookup_true}
 use Rattle.ranking_sheet.specs.Sheet.{rows_from, rows_in, intervals_at, intervals_from, intervals_in, input_refusal}

@@ -4,8 +4,7 @@ use Rattle.rules.specs.EventFile.{word_of}
 use Rattle.rules.specs.Refusals.{◌gives◌else◌}
 use Rattle.rules.specs.Key.{bytes, decimal, file_line}
 use Rattle.ranking_table.specs.declared.Row.{Row}
-use Rattle.ranking_table.specs.declared.Answer.{Answer}
-use Rattle.ranking_table.specs.Ranking.{lookup}
+use Rattle.ranking_table.specs.Ranking.{Answer, lookup}
 
 -- a number of two bytes, "big-endian", from a place on
 abbrev pub word_at : List ℕ → ℕ → ℕ

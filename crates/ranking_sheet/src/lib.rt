@@ -9,7 +9,7 @@ mod answers;
 mod reading;
 
 use answers::put_answers;
-use reading::{input_refusal, read_table};
+use reading::{check_input, read_table};
 use text::{INPUT, file_buffer, put_file_line};
 
 // Room for the answers to every input: `ranking_fits`, proofs/Room.antt.
@@ -28,10 +28,8 @@ pub fn write_ranking(input: &[u8], out: &mut [u8; ROOM]) -> usize
     ensures { (result ≡ length (ranking input.now))
         × (out.new ≡ ranking input.now ++ drop (length (ranking input.now)) out.old) }
 {
-    let refusal = input_refusal(input);
-    if refusal != 0 {
-        return put_file_line(out, 0, refusal);
+    if let Err(refusal) = check_input(input) {
+        return put_file_line(out, 0, u8::from(refusal));
     }
-    let table = read_table(input);
-    put_answers(out, input, table)
+    put_answers(out, input, &read_table(input))
 }

@@ -160,7 +160,8 @@ module _ (rows : List Row) (i : ℕ) where
   of_two = in_two_more (holding rows i) (counted rows i)
 
 -- the only row that holds an interval gives its priority
-pub priority_of : (rows : List Row) (i k : ℕ) → In rows i k → ((j : ℕ) → In rows i j → j ≡ k) → priority_in rows i ≡ (row_at rows k).priority
+pub priority_of : (rows : List Row) (i k : ℕ) → In rows i k → ((j : ℕ) → In rows i j → j ≡ k)
+    → priority_in rows i ≡ (row_at rows k).priority
 unfolding priority_in
 priority_of [] i k h only = absurd (no_row_holds i k h)
 priority_of (row ∷ rows) i zero h only = rw (holds_of i row h.from h.to) refl

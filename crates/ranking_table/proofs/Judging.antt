@@ -1,17 +1,38 @@
 -- What is wrong with a table, test by test, and what a table that was judged answers.
-use Prim.Native.Nat.{ℕ, ◌≤◌, ◌<◌, min}
-use native.Mathlib.Omega.{arith}
+use Prim.Native.Nat.{ℕ, ◌≤◌, ◌<◌}
 use mathlib.Core.Path.{◌≡◌, refl, sym, ap, ◌∙◌}
 use mathlib.Core.List.{List}
 use mathlib.Core.Bool.{true, false}
-use lib.Dec.{ltb}
-use lib.ListN.{length, take, length-take}
-use lib.Seq.{take_all}
-use borrow.Author.Tests.{lt-ltb, le-ltb, le-leb, lt-leb, eq-eqb, ne_eqb, ltb-true, ltb-false}
+use lib.Dec.{leb, ltb}
+use lib.ListN.{length}
+use Rattle.std.proofs.lemmas.Option.{none-some}
+use Rattle.std.specs.Prelude.{Option, Some, None, unwrap_or}
+use borrow.Author.Tests.{leb-true, leb-false, lt-ltb, le-ltb, le-leb, lt-leb}
 use Rattle.rules.proofs.Basics.Views.{Two, yes_true, no_false, two, or_true_right}
 use Rattle.ranking_table.specs.declared.Row.{Row}
-use Rattle.ranking_table.specs.declared.Answer.{Answer}
-use Rattle.ranking_table.specs.Ranking.{in_range, any_bad, overlap, gap, refused, accepted, fault, priority_in, answer_by}
+use Rattle.ranking_table.specs.Good.{there}
+use Rattle.ranking_table.specs.Ranking.{any_bad, overlap, gap, refused, accepted, fault}
+
+-- a search that found an interval, and one that found none
+is_here : (s : ℕ) → leb s 60000 ≡ true → there s ≡ Some s
+is_here s h = rw h refl
+
+is_none : (s : ℕ) → leb s 60000 ≡ false → there s ≡ None
+is_none s h = rw h refl
+
+found_at : (s i : ℕ) → Some i ≡ there s → (s ≤ 60000) × (i ≡ s)
+found_at s i e = by (two (leb s 60000))
+  where
+    by : Two (leb s 60000) → (s ≤ 60000) × (i ≡ s)
+    by (yes_true h) = (leb-true s 60000 h, ap (λ (o : Option ℕ). unwrap_or o 0) (e ∙ is_here s h))
+    by (no_false h) = absurd (none-some i (sym (e ∙ is_none s h)))
+
+found_none : (s : ℕ) → None ≡ there s → 60000 < s
+found_none s e = by (two (leb s 60000))
+  where
+    by : Two (leb s 60000) → 60000 < s
+    by (yes_true h) = absurd (none-some s (e ∙ is_here s h))
+    by (no_false h) = leb-false s 60000 h
 
 module _ (rows : List Row) where
   pub many_fault : 64 < length rows → fault rows ≡ refused 23 0
@@ -36,33 +57,16 @@ module _ (rows : List Row) where
       unfolding fault
       no_fault h = rw (good, le-ltb 64 (length rows) few, lt-leb (overlap rows) 60000 apart, lt-leb (gap rows) 60000 h) refl
 
--- the first n rows of an array
-module _ (rows : List Row) (n : ℕ) (full : length rows ≡ 255) where
-  pub many_used : 64 < n → 64 < length (take n rows)
-  many_used h = omega (arith, length-take n rows, full)
+    -- by what the two searches find
+    pub overlap_told : (i : ℕ) → Some i ≡ there (overlap rows) → refused 24 i ≡ fault rows
+    overlap_told i e =
+        let h = found_at (overlap rows) i e in
+        ap (refused 24) h.1 ∙ sym (overlap_fault h.0)
 
-  pub few_used : n ≤ 64 → length (take n rows) ≤ 64
-  few_used h = omega (arith, length-take n rows, full)
+    pub gap_told : (i : ℕ) → None ≡ there (overlap rows) → Some i ≡ there (gap rows) → refused 25 i ≡ fault rows
+    gap_told i e f =
+        let h = found_at (gap rows) i f in
+        ap (refused 25) h.1 ∙ sym (gap_fault (found_none (overlap rows) e) h.0)
 
-  pub in_room : take n rows ≡ take (min n 255) rows
-  in_room = by (two (ltb n 255))
-    where
-      by : Two (ltb n 255) → take n rows ≡ take (min n 255) rows
-      by (yes_true h) =
-          let short : min n 255 ≡ n = omega (arith, ltb-true n 255 h) in
-          ap (λ (m : ℕ). take m rows) (sym short)
-      by (no_false h) =
-          let long : min n 255 ≡ 255 = omega (arith, ltb-false n 255 h) in
-          take_all n rows (omega (arith, ltb-false n 255 h))
-          ∙ sym (ap (λ (m : ℕ). take m rows) long ∙ take_all 255 rows (omega arith))
-
--- a table that was judged
-module _ (judged : Answer) (rows : List Row) (i : ℕ) where
-  pub judged_bad : (judged.refusal ≡ 0 → ⊥) → judged ≡ answer_by judged rows i
-  judged_bad h = rw (ne_eqb judged.refusal 0 h) refl
-
-  pub judged_found : judged.refusal ≡ 0 → in_range i ≡ true → accepted (priority_in rows i) ≡ answer_by judged rows i
-  judged_found h e = rw (eq-eqb judged.refusal 0 h, e) refl
-
-  pub judged_outside : judged.refusal ≡ 0 → in_range i ≡ false → refused 23 0 ≡ answer_by judged rows i
-  judged_outside h e = rw (eq-eqb judged.refusal 0 h, e) refl
+    pub none_told : None ≡ there (overlap rows) → None ≡ there (gap rows) → accepted 0 ≡ fault rows
+    none_told e f = sym (no_fault (found_none (overlap rows) e) (found_none (gap rows) f))

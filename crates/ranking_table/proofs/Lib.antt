@@ -3,7 +3,7 @@ pub mod Counting
 pub mod Searching
 pub mod Ends
 pub mod BadRows
-pub mod Passing
 pub mod Trying
+pub mod Chains
 pub mod Judging
 pub mod Rankings

@@ -13,9 +13,8 @@ use lib.ListN.{length}
 use borrow.Author.Tests.{leb-true, leb-false, le-leb, eq-eqb, eqb-true, ltb-true, ltb-false}
 use Rattle.rules.proofs.Basics.Views.{Two, yes_true, no_false, two, clash}
 use Rattle.ranking_table.specs.declared.Row.{Row}
-use Rattle.ranking_table.specs.declared.Answer.{Answer}
 use Rattle.ranking_table.specs.Ranking.{in_range, holding, missing, in_two, overlap, gap, any_bad}
-use Rattle.ranking_table.specs.Ranking.{accepted, fault, answer_by, lookup}
+use Rattle.ranking_table.specs.Ranking.{Answer, accepted, fault, answer_by, lookup}
 use Rattle.ranking_table.specs.Good.{row_at, Interval, InOne, InTwo, Missing, Formed, Good, SmallestOf}
 use Rattle.ranking_table.specs.Good.{Judged, too_many, a_bad_row, overlapping, gaping, good}
 use Rattle.ranking_table.specs.Good.{Outcome, bad_table, outside, found}

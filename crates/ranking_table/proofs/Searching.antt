@@ -1,16 +1,20 @@
 -- The smallest interval that a test takes: there is one such answer only, and a search through a few candidates finds it if below every
 -- interval that the test takes there is a candidate that it takes.
-use Prim.Native.Nat.{ℕ, zero, suc, ◌+◌, ◌≤◌, ◌<◌}
+use Prim.Native.Nat.{ℕ, zero, suc, ◌+◌, ◌≤◌, ◌<◌, min}
 use native.Mathlib.Omega.{arith}
 use native.Mathlib.Nat.{eq-or-lt_of_le}
 use mathlib.Core.Path.{◌≡◌, refl, sym, ap, ◌∙◌}
-use mathlib.Core.Logic.{⊎_elim}
+use mathlib.Core.Logic.{◌⊎◌, inl, inr, ⊎_elim}
+use mathlib.Core.List.{List, [], ◌∷◌}
 use mathlib.Core.Bool.{Bool, true, false}
-use lib.Dec.{ltb}
-use borrow.Author.Tests.{ltb-true, ltb-false, lt-ltb, le-ltb}
+use lib.Dec.{leb, ltb}
+use lib.ListN.{length, get_or}
+use borrow.Author.Tests.{leb-true, leb-false, le-leb, ltb-true, ltb-false}
+use Rattle.std.specs.Prelude.{Some}
+use Rattle.std.specs.List.{filter, fold, reduce}
 use Rattle.rules.proofs.Basics.Views.{Two, yes_true, no_false, two, clash}
 use Rattle.ranking_table.specs.Ranking.{smallest_from, smallest}
-use Rattle.ranking_table.specs.Good.{better}
+use Rattle.ranking_table.specs.Good.{there}
 
 -- the answer of the search over n intervals from i on
 record Sought (test : ℕ → Bool) (i n r : ℕ) : Type 0 where
@@ -60,24 +64,6 @@ module _ (test : ℕ → Bool) where
       by (no_false e) (yes_true f) = absurd (not_below smallest_is s (ltb-true (smallest test) r f))
       by (no_false e) (no_false f) = omega (arith, ltb-false r (smallest test) e, ltb-false (smallest test) r f)
 
--- the better of two, by the tests that say so
-module _ (test : ℕ → Bool) (best i : ℕ) where
-  pub better_taken : i < best → test i ≡ true → i ≡ better test best i
-  better_taken less e = rw (lt-ltb i best less, e) refl
-
-  pub better_left : i < best → test i ≡ false → best ≡ better test best i
-  better_left less e = rw (lt-ltb i best less, e) refl
-
-  pub better_above : best ≤ i → best ≡ better test best i
-  better_above above = rw (le-ltb i best above) refl
-
--- the best of k candidates
-pub record Best (test : ℕ → Bool) (at : ℕ → ℕ) (k best : ℕ) : Type 0 where
-  pub low : 1 ≤ best
-  pub high : best ≤ 60001
-  pub takes : best ≤ 60000 → test best ≡ true
-  pub least : (j : ℕ) → j < k → at j < best → test (at j) ≡ false
-
 -- a candidate that the test takes, not above i
 pub record Candidate (test : ℕ → Bool) (at : ℕ → ℕ) (n i : ℕ) : Type 0 where
   pub number : ℕ
@@ -85,49 +71,110 @@ pub record Candidate (test : ℕ → Bool) (at : ℕ → ℕ) (n i : ℕ) : Type
   pub below : at number ≤ i
   pub takes : test (at number) ≡ true
 
-module _ (test : ℕ → Bool) (at : ℕ → ℕ) where
-  pub best_none : Best test at 0 60001
-  best_none = record { low = omega arith; high = omega arith; takes = λ h. absurd (omega arith); least = λ j h. absurd (omega arith) }
+-- the least of those numbers of a list that are taken, and of one more
+module _ (taken : ℕ → Bool) where
+  record Taken (xs : List ℕ) (m : ℕ) : Type 0 where
+    number : ℕ
+    listed : number < length xs
+    takes : taken (get_or xs number 0) ≡ true
+    is : get_or xs number 0 ≡ m
 
-  module _ {k best : ℕ} (b : Best test at k best) where
-    -- the next candidate is not below the best, or the test does not take it
-    stays : (at k < best → test (at k) ≡ false) → Best test at (k + 1) best
-    stays f =
+  record Least (xs : List ℕ) (past m : ℕ) : Type 0 where
+    high : m ≤ past
+    least : (k : ℕ) → k < length xs → taken (get_or xs k 0) ≡ true → m ≤ get_or xs k 0
+    from : (m ≡ past) ⊎ Taken xs m
+
+  later : (x : ℕ) {xs : List ℕ} {m : ℕ} → Taken xs m → Taken (x ∷ xs) m
+  later x t = record { number = suc t.number; listed = omega (arith, t.listed); takes = t.takes; is = t.is }
+
+  module _ (x : ℕ) {xs : List ℕ} {past m : ℕ} where
+    takes_one : taken x ≡ true → Least xs (min past x) m → Least (x ∷ xs) past m
+    takes_one e l =
         record {
-          low = b.low;
-          high = b.high;
-          takes = b.takes;
-          least = λ j h less. let le : j ≤ k = omega arith in
-              ⊎_elim (λ q. ap (λ (i : ℕ). test (at i)) q ∙ f (omega (arith, ap at q))) (λ before. b.least j before less)
-              (eq-or-lt_of_le le);
+          high = omega (arith, l.high);
+          least = λ k h f. by k h f;
+          from = ⊎_elim (λ q. one q (two (leb past x))) (λ t. inr (later x t)) l.from;
         }
-
-    -- it is better
-    next : at k < best → 1 ≤ at k → test (at k) ≡ true → Best test at (k + 1) (at k)
-    next less some e =
-        record {
-          low = some;
-          high = omega (arith, b.high);
-          takes = λ _. e;
-          least = λ j h lower. let le : j ≤ k = omega arith in
-              ⊎_elim (λ q. absurd (omega (arith, ap at q))) (λ before. b.least j before (omega arith)) (eq-or-lt_of_le le);
-        }
-
-    pub best_next : 1 ≤ at k → Best test at (k + 1) (better test best (at k))
-    best_next some = by (two (ltb (at k) best)) (two (test (at k)))
       where
-        by : Two (ltb (at k) best) → Two (test (at k)) → Best test at (k + 1) (better test best (at k))
-        by (yes_true l) (yes_true e) = rw (l, e) (next (ltb-true (at k) best l) some e)
-        by (yes_true l) (no_false e) = rw (l, e) (stays (λ _. e))
-        by (no_false l) _ = rw l (stays (λ less. absurd (omega (arith, ltb-false (at k) best l))))
+        by : (k : ℕ) → k < length (x ∷ xs) → taken (get_or (x ∷ xs) k 0) ≡ true → m ≤ get_or (x ∷ xs) k 0
+        by zero h f = omega (arith, l.high)
+        by (suc k) h f = l.least k (omega arith) f
 
-    -- all are tried
-    pub best_of_all : ((i : ℕ) → 1 ≤ i → test i ≡ true → Candidate test at k i) → best ≡ smallest test
-    best_of_all descend =
-        only_smallest test (record { low = b.low; high = b.high; takes = b.takes; first = λ j some less. by j some less (two (test j)) })
+        one : m ≡ min past x → Two (leb past x) → (m ≡ past) ⊎ Taken (x ∷ xs) m
+        one q (yes_true le) = inl (omega (arith, q, leb-true past x le))
+        one q (no_false le) = inr (record { number = 0; listed = omega arith; takes = e; is = omega (arith, q, leb-false past x le) })
+
+    takes_none : taken x ≡ false → Least xs past m → Least (x ∷ xs) past m
+    takes_none e l =
+        record { high = l.high; least = λ k h f. by k h f; from = ⊎_elim (λ q. inl q) (λ t. inr (later x t)) l.from }
       where
-        by : (j : ℕ) → 1 ≤ j → j < best → Two (test j) → test j ≡ false
-        by j some less (yes_true e) =
-            let c = descend j some e in
-            clash (test (at c.number)) c.takes (b.least c.number c.listed (omega (arith, c.below)))
-        by j some less (no_false e) = e
+        by : (k : ℕ) → k < length (x ∷ xs) → taken (get_or (x ∷ xs) k 0) ≡ true → m ≤ get_or (x ∷ xs) k 0
+        by zero h f = clash (taken x) f e
+        by (suc k) h f = l.least k (omega arith) f
+
+  least_of : (xs : List ℕ) (past : ℕ) → Least xs past (fold min past (filter taken xs))
+  least_of [] past = record { high = omega arith; least = λ k h f. absurd (omega arith); from = inl refl }
+  least_of (x ∷ xs) past = by (two (taken x)) (least_of xs (min past x)) (least_of xs past)
+    where
+      by : Two (taken x) → Least xs (min past x) (fold min (min past x) (filter taken xs)) → Least xs past (fold min past (filter taken xs))
+          → Least (x ∷ xs) past (fold min past (filter taken (x ∷ xs)))
+      by (yes_true e) with_x _ = rw e (takes_one x e with_x)
+      by (no_false e) _ without = rw e (takes_none x e without)
+
+  -- none is taken where the least is 60,001
+  reduce_is : (xs : List ℕ) → ((k : ℕ) → k < length xs → taken (get_or xs k 0) ≡ true → get_or xs k 0 ≤ 60000)
+      → reduce min (filter taken xs) ≡ there (fold min 60001 (filter taken xs))
+  reduce_is [] f = refl
+  reduce_is (x ∷ xs) f = by (two (taken x)) (reduce_is xs (λ k h. f (suc k) (omega arith)))
+    where
+      by : Two (taken x) → reduce min (filter taken xs) ≡ there (fold min 60001 (filter taken xs))
+          → reduce min (filter taken (x ∷ xs)) ≡ there (fold min 60001 (filter taken (x ∷ xs)))
+      by (yes_true e) _ =
+          let fits = f 0 (omega arith) e in
+          let lower : min 60001 x ≡ x = omega (arith, fits) in
+          let inside : fold min x (filter taken xs) ≤ 60000 = omega (arith, fits, (least_of xs x).high) in
+          let here : Some (fold min x (filter taken xs)) ≡ there (fold min x (filter taken xs)) =
+          rw (le-leb (fold min x (filter taken xs)) 60000 inside) refl in
+          rw e (here ∙ ap (λ (first : ℕ). there (fold min first (filter taken xs))) (sym lower))
+      by (no_false e) h = rw e h
+
+-- the least of the candidates that the code takes is the smallest that the test takes
+module _ (taken test : ℕ → Bool) (xs : List ℕ) (at : ℕ → ℕ) where
+  -- the list of the candidates: the test is all that the code looks at, but for those past the longest
+  pub record Tried : Type 0 where
+    pub is : (k : ℕ) → k < length xs → get_or xs k 0 ≡ at k
+    pub some : (k : ℕ) → k < length xs → 1 ≤ at k
+    pub fits : (k : ℕ) → k < length xs → taken (at k) ≡ true → at k ≤ 60000
+    pub tested : (k : ℕ) → k < length xs → taken (at k) ≡ true → test (at k) ≡ true
+    pub takes : (k : ℕ) → k < length xs → at k ≤ 60000 → test (at k) ≡ true → taken (at k) ≡ true
+
+  pub least_is : Tried → ((i : ℕ) → 1 ≤ i → test i ≡ true → Candidate test at (length xs) i)
+      → reduce min (filter taken xs) ≡ there (smallest test)
+  least_is t descend = reduce_is taken xs fits ∙ ap there (only_smallest test (smallest_of (least_of taken xs 60001)))
+    where
+      fits : (k : ℕ) → k < length xs → taken (get_or xs k 0) ≡ true → get_or xs k 0 ≤ 60000
+      fits k h e = omega (arith, t.is k h, t.fits k h (ap taken (sym (t.is k h)) ∙ e))
+
+      of_taken : {m : ℕ} → Taken taken xs m → (1 ≤ m) × (test m ≡ true)
+      of_taken h =
+          let here = t.is h.number h.listed in (
+            omega (arith, here, h.is, t.some h.number h.listed),
+            ap test (sym h.is ∙ here) ∙ t.tested h.number h.listed (ap taken (sym here) ∙ h.takes),
+          )
+
+      first_of : {m : ℕ} → Least taken xs 60001 m → (j : ℕ) → 1 ≤ j → j < m → Two (test j) → test j ≡ false
+      first_of l j some less (yes_true e) =
+          let c = descend j some e in
+          let here = t.is c.number c.listed in
+          let takes = t.takes c.number c.listed (omega (arith, c.below, l.high)) c.takes in
+          absurd (omega (arith, here, c.below, l.least c.number c.listed (ap taken here ∙ takes)))
+      first_of l j some less (no_false e) = e
+
+      smallest_of : {m : ℕ} → Least taken xs 60001 m → Smallest test m
+      smallest_of {m} l =
+          record {
+            low = ⊎_elim (λ q. omega (arith, q)) (λ h. (of_taken h).0) l.from;
+            high = l.high;
+            takes = λ inside. ⊎_elim (λ q. absurd (omega (arith, q, inside))) (λ h. (of_taken h).1) l.from;
+            first = λ j some less. first_of l j some less (two (test j));
+          }

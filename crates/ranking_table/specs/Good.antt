@@ -1,8 +1,7 @@
 -- What the theorems say of a table, by the numbers of its rows, from 0: good, an interval in exactly one row, in two rows, in none.
-use Rattle.std.specs.Prelude.{ℕ, ◌≤◌, ◌<◌, ◌≡◌, List, Bool, cond, ltb, length, get_or}
+use Rattle.std.specs.Prelude.{ℕ, ◌≤◌, ◌<◌, ◌≡◌, List, Option, Some, None, cond, length, get_or}
 use Rattle.ranking_table.specs.declared.Row.{Row}
-use Rattle.ranking_table.specs.declared.Answer.{Answer}
-use Rattle.ranking_table.specs.Ranking.{refused, accepted}
+use Rattle.ranking_table.specs.Ranking.{Answer, refused, accepted, is_there}
 
 -- past the last row
 abbrev pub no_row : Row
@@ -87,6 +86,6 @@ pub data Outcome (rows : List Row) (i : ℕ) : Answer → Type 0 where
   -- "the priority of the row that holds its interval, and interval 0"
   found : Good rows → Interval i → (one : InOne rows i) → Outcome rows i (accepted (row_at rows one.row).priority)
 
--- what the code tries one by one: a candidate that a test takes, if it is below the best so far
-abbrev pub better : (ℕ → Bool) → ℕ → ℕ → ℕ
-better test best i = cond (ltb i best) (cond (test i) i best) best
+-- what the code finds: no interval where the search of the definitions ends past the longest
+abbrev pub there : ℕ → Option ℕ
+there i = cond (is_there i) (Some i) None

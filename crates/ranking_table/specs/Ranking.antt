@@ -1,9 +1,11 @@
 -- Document 02, [10], "Ranking table of the survey office": what a lookup answers. All of it is said of intervals and the rows that hold
 -- them; `overlap` and `gap` look at each of the 60,000.
 use Rattle.std.specs.Prelude.{ℕ, zero, suc, List, [], ◌∷◌, Bool, false, cond, not, ◌&&◌, ◌||◌, leb, ltb, eqb, length, take}
+use Rattle.std.specs.Prelude.{⊤, Result, Ok, Err, ◌≡◌}
+use Rattle.rules.specs.RefusalNumbers.{number_of}
 use Rattle.ranking_table.specs.declared.Row.{Row}
 use Rattle.ranking_table.specs.declared.Table.{Table}
-use Rattle.ranking_table.specs.declared.Answer.{Answer}
+use Rattle.ranking_table.specs.declared.Refused.{Refused}
 
 -- "a sensor's message interval, 1 to 60,000 milliseconds"
 abbrev pub longest : ℕ
@@ -59,6 +61,12 @@ unfoldable pub any_bad : List Row → Bool
 any_bad [] = false
 any_bad (row ∷ rows) = bad_row row || any_bad rows
 
+-- what a lookup answers: refusal 0 where it is accepted
+pub record Answer : Type 0 where
+  pub refusal : ℕ
+  pub priority : ℕ
+  pub interval : ℕ
+
 -- "A refused lookup hands back priority 0."
 abbrev pub refused : ℕ → ℕ → Answer
 refused number interval = record { refusal = number; priority = 0; interval = interval }
@@ -66,6 +74,15 @@ refused number interval = record { refusal = number; priority = 0; interval = in
 -- "An accepted lookup hands back the priority of the row that holds its interval, and interval 0."
 abbrev pub accepted : ℕ → Answer
 accepted priority = record { refusal = 0; priority = priority; interval = 0 }
+
+-- the answers that the code gives: of a lookup, and of a table that is judged
+abbrev pub answer_of : Result ℕ Refused → Answer
+answer_of (Ok priority) = accepted priority
+answer_of (Err e) = refused (number_of e.refusal) e.interval
+
+abbrev pub judged_of : Result ⊤ Refused → Answer
+judged_of (Ok _) = accepted 0
+judged_of (Err e) = refused (number_of e.refusal) e.interval
 
 -- what is wrong with a table: "23, a row outside the range or with first above last, or more than 64 rows; 24, overlap; 25, gap; in that
 -- order", "with 23 .. the interval handed back is 0"; refusal 0 where it is good
@@ -87,3 +104,9 @@ answer_by judged rows i =
 
 unfoldable pub lookup : List Row → ℕ → Answer
 lookup rows i = answer_by (fault rows) rows i
+
+-- what the code answers where a table was judged so: it hands on what refused the table, of any type that a refusal can be made one of
+abbrev pub AnswersBy : {E : Type 0} → (Refused → E → Type 0) → Result ⊤ E → List Row → ℕ → Result ℕ E → Type 0
+AnswersBy gives (Err e) rows i result = result ≡ Err e
+AnswersBy gives (Ok _) rows i (Ok priority) = answer_of (Ok priority) ≡ answer_by (accepted 0) rows i
+AnswersBy gives (Ok _) rows i (Err made) = (e : Refused) × gives e made × (answer_of (Err e) ≡ answer_by (accepted 0) rows i)

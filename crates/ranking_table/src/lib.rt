@@ -6,34 +6,27 @@
 // (`overlap_at_a_first`, `gap_after_a_last`, proofs/Rankings.antt). So only these are tried, each against all rows: a table of n rows is
 // judged in at most 2n(n + 2) looks at a row, and an interval is looked up in n, however long the rows are.
 ghost use Rattle.std.specs.Prelude.{◌≡◌};
-ghost use Rattle.ranking_table.specs.Ranking.{rows_of, refused, fault, answer_by, lookup};
+ghost use Rattle.ranking_table.specs.Ranking.{rows_of, judged_of, answer_of, fault, answer_by, lookup, accepted, AnswersBy};
 
 mod faults;
 mod rows;
 
 use faults::{has_bad_row, overlap_or_gap};
-use rows::{in_range, in_use, priority_in};
+use rows::{in_range, priority_in};
+use rules::Refusal;
 
 // "a sensor's message interval, 1 to 60,000 milliseconds"
 pub const LONGEST: u16 = 60000;
 
 // "first, last, priority": "first and last inclusive"
-#[derive(Clone, Copy)]
+#[derive(Clone, Copy, Debug, Default, PartialEq, Eq)]
 pub struct Row {
     pub first: u16,
     pub last: u16,
     pub priority: u8,
 }
 
-impl Row {
-    pub const NONE: Row = Row {
-        first: 0,
-        last: 0,
-        priority: 0,
-    };
-}
-
-// "up to 64 rows in any order": there is room for more, so that more can be refused.
+// "up to 64 rows in any order": an array and a count, since memory is fixed, with room for more, so that more can be refused.
 #[derive(Clone, Copy)]
 pub struct Table {
     pub rows: [Row; Table::ROOM],
@@ -44,75 +37,68 @@ impl Table {
     pub const ROOM: usize = 255;
 
     pub const MOST: usize = 64;
+
+    // The rows in use: never more than there is room for.
+    fn rows(&self) -> &[Row]
+        ensures { result.now ≡ rows_of self.now }
+    {
+        &self.rows[..self.count.min(Table::ROOM)]
+    }
 }
 
-// Refusal 0 where a lookup is accepted.
-#[derive(Clone, Copy)]
-pub struct Answer {
-    pub refusal: u8,
-    pub priority: u8,
+// Why a lookup is refused, and the interval that it hands back.
+#[derive(Clone, Copy, Debug, PartialEq, Eq)]
+pub struct Refused {
+    pub refusal: Refusal,
     pub interval: u16,
 }
 
-impl Answer {
-    // Nothing is wrong.
-    pub const GOOD: Answer = Answer {
-        refusal: 0,
-        priority: 0,
+impl Refused {
+    // "with 23, for a row or for the interval looked up, the interval handed back is 0"
+    const BAD_ROW: Refused = Refused {
+        refusal: Refusal::BadRow,
         interval: 0,
     };
-
-    // "A refused lookup hands back priority 0."
-    pub(crate) fn refused(refusal: u8, interval: u16) -> Answer
-        ensures { result ≡ refused refusal interval }
-    {
-        Answer {
-            refusal,
-            priority: 0,
-            interval,
-        }
-    }
 }
 
 // What is wrong with a table.
-pub fn judge(table: Table) -> Answer
-    ensures { result ≡ fault (rows_of table) }
+#[tactic(auto, using(crate::proofs::Judging::many_fault, crate::proofs::Judging::row_fault))]
+pub fn judge(table: &Table) -> Result<(), Refused>
+    ensures { judged_of result ≡ fault (rows_of table.now) }
 {
-    let n = table.count;
-    if Table::MOST < n {
-        return Answer::refused(23, 0);
+    let rows = table.rows();
+    if Table::MOST < rows.len() || has_bad_row(rows) {
+        return Err(Refused::BAD_ROW);
     }
-    let rows = table.rows;
-    if has_bad_row(rows, n) {
-        return Answer::refused(23, 0);
-    }
-    overlap_or_gap(rows, n)
+    overlap_or_gap(rows)
 }
 
-// What a table that was judged so answers: for several intervals it is judged once.
-pub fn answer_by(judged: Answer, table: Table, interval: u16) -> Answer
-    ensures { result ≡ answer_by judged (rows_of table) interval }
+// What a table without a fault answers.
+fn find(table: &Table, interval: u16) -> Result<u8, Refused>
+    ensures { answer_of result ≡ answer_by (accepted 0) (rows_of table.now) interval }
 {
-    if judged.refusal != 0 {
-        return judged;
+    if !in_range(interval) {
+        return Err(Refused::BAD_ROW);
     }
-    if in_range(interval) {
-        let rows = table.rows;
-        let n = in_use(table.count);
-        let priority = priority_in(rows, n, interval);
-        return Answer {
-            refusal: 0,
-            priority,
-            interval: 0,
-        };
-    }
-    Answer::refused(23, 0)
+    Ok(priority_in(table.rows(), interval))
+}
+
+// What a table that was judged so answers: for several intervals it is judged once. Whatever refused it is handed on.
+pub fn answer_by<E: From<Refused>>(
+    judged: Result<(), E>,
+    table: &Table,
+    interval: u16,
+) -> Result<u8, E>
+    ensures { AnswersBy E.From.from_gives judged (rows_of table.now) interval result }
+{
+    judged?;
+    Ok(find(table, interval)?)
 }
 
 // "A lookup first refuses a bad table with that table's number, then an interval outside 1 to 60,000 with 23."
-pub fn lookup(table: Table, interval: u16) -> Answer
-    ensures { result ≡ lookup (rows_of table) interval }
+#[tactic(auto, unfolding(crate::specs::Ranking::lookup))]
+pub fn lookup(table: &Table, interval: u16) -> Result<u8, Refused>
+    ensures { answer_of result ≡ lookup (rows_of table.now) interval }
 {
-    let judged = judge(table);
-    answer_by(judged, table, interval)
+    answer_by(judge(table), table, interval)
 }

@@ -1,9 +1,9 @@
 -- The chain's line, thread by thread: after the first, each thread that is left has a space before it.
-use Prim.Native.Nat.{ℕ, zero, suc, ◌-◌, ◌<◌}
-use native.Mathlib.Omega.{arith}
+use Prim.Native.Nat.{ℕ, zero, suc, ◌<◌}
 use mathlib.Core.Path.{◌≡◌, refl, sym, ap, ◌∙◌}
 use mathlib.Core.List.{List, [], ◌∷◌, ◌++◌}
 use mathlib.Core.Bool.{true, false}
+use Rattle.std.specs.Prelude.{Option, Some, None, is_some, unwrap_or, cond}
 use Rattle.rules.specs.declared.Hold.{Hold}
 use Rattle.rules.specs.declared.Hold.TheVariants.{Ready, Idle, Blocked, Calling, Helping}
 use Rattle.rules.specs.declared.Thread.{Thread}
@@ -44,25 +44,40 @@ over_one next Blocked e = clash false e refl
 over_one next (Calling s) e = refl
 over_one next (Helping s) e = refl
 
--- with a link to follow
-later_over : (left : ℕ) (ts : List Thread) (n : ℕ) → 0 < left → later left ts n ≡ over_link (threads_from (left - 1) ts) (hold_at ts n)
-unfolding later
-later_over zero ts n h = absurd (omega arith)
-later_over (suc k) ts n h = let one : suc k - 1 ≡ k = omega arith in rw one
-
-module _ (left : ℕ) (ts : List Thread) (n : ℕ) (some_left : 0 < left) where
-  over_is : {h : Hold} → h ≡ hold_at ts n → later left ts n ≡ over_link (threads_from (left - 1) ts) h
-  over_is e = later_over left ts n some_left ∙ ap (over_link (threads_from (left - 1) ts)) (sym e)
+-- with a link to follow, and one fewer after it
+module _ (left rest : ℕ) (one_of : left ≡ suc rest) (ts : List Thread) (n : ℕ) where
+  over_is : later left ts n ≡ over_link (threads_from rest ts) (hold_at ts n)
+  unfolding later
+  over_is = rw one_of
 
   pub line_ends : {h : Hold} → h ≡ hold_at ts n → linked h ≡ false → spaced (later left ts n) ≡ bytes "\n"
   unfolding spaced
-  line_ends {h} e none = ap spaced (over_is e ∙ over_none (threads_from (left - 1) ts) h none)
+  line_ends {h} e none =
+      ap spaced (over_is ∙ ap (over_link (threads_from rest ts)) (sym e) ∙ over_none (threads_from rest ts) h none)
 
   pub line_goes_on : {h : Hold} → h ≡ hold_at ts n → linked h ≡ true → {next : ℕ} → next ≡ linked_thread h
-      → spaced (later left ts n) ≡ bytes " " ++ decimal next ++ spaced (later (left - 1) ts next)
+      → spaced (later left ts n) ≡ bytes " " ++ decimal next ++ spaced (later rest ts next)
   unfolding spaced
   line_goes_on {h} e one {next} is =
       ap spaced
-      (over_is e ∙ over_one (threads_from (left - 1) ts) h one
-      ∙ ap (threads_from (left - 1) ts) (sym is)
-      ∙ threads_later (left - 1) ts next)
+      (over_is
+      ∙ ap (over_link (threads_from rest ts)) (sym e)
+      ∙ over_one (threads_from rest ts) h one
+      ∙ ap (threads_from rest ts) (sym is)
+      ∙ threads_later rest ts next)
+
+-- what a search for a link finds
+pub found_none : (h : Hold) → {o : Option ℕ} → o ≡ cond (linked h) (Some (linked_thread h)) None → o ≡ None → linked h ≡ false
+found_none Ready e is = refl
+found_none Idle e is = refl
+found_none Blocked e is = refl
+found_none (Calling s) e is = clash true refl (ap is_some (sym e ∙ is))
+found_none (Helping s) e is = clash true refl (ap is_some (sym e ∙ is))
+
+pub found_one : (h : Hold) → {o : Option ℕ} → o ≡ cond (linked h) (Some (linked_thread h)) None → {next : ℕ} → o ≡ Some next
+    → (linked h ≡ true) × (next ≡ linked_thread h)
+found_one Ready e is = clash true refl (ap is_some (sym is ∙ e))
+found_one Idle e is = clash true refl (ap is_some (sym is ∙ e))
+found_one Blocked e is = clash true refl (ap is_some (sym is ∙ e))
+found_one (Calling s) e {next} is = (refl, ap (λ (o : Option ℕ). unwrap_or o 0) (sym is ∙ e))
+found_one (Helping s) e {next} is = (refl, ap (λ (o : Option ℕ). unwrap_or o 0) (sym is ∙ e))

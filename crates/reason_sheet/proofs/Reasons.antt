@@ -7,12 +7,16 @@ use mathlib.Core.Bool.{true, false, not}
 use lib.ListN.{length, take, drop, length-drop}
 use lib.Seq.{take_all}
 use borrow.Author.Tests.{lt-ltb, le-ltb, not-true, not-false}
+use Rattle.std.specs.Prelude.{Result, Err}
+use Rattle.rules.specs.declared.refusal.Refusal.{Refusal}
+use Rattle.rules.specs.RefusalNumbers.{number_of}
+use Rattle.rules.specs.RefusalNumbers as numbers
 use Rattle.rules.specs.State.{State}
 use Rattle.rules.specs.EventFile.{file_refusal}
 use Rattle.rules.specs.Key.{file_line}
 use Rattle.rules.specs.Reason.{number_in, file_in, no_such_event, reason_refusal_after, reason_refusal, reason_after, reason, machine_after}
 use Rattle.rules.specs.Reason.{above, chain_line, cause_lines, reason_of}
-use Rattle.text.proofs.Refused.{refused_line}
+use Rattle.text.proofs.Refused.{refused_answer}
 
 -- all that follows the number is the file
 pub whole_file : (input : List ℕ) → take (length input - 4) (drop 4 input) ≡ file_in input
@@ -30,8 +34,10 @@ module _ (input : List ℕ) (long : 4 ≤ length input) {file : List ℕ} (is-fi
   by_file n e =
       rw (le-ltb (length input) 4 long) (ap (λ (k : ℕ). reason_after (reason_refusal_after k input) input) (e ∙ ap file_refusal is-file))
 
-  pub refused_file : (n : ℕ) → n ≡ file_refusal file → (n ≡ 0 → ⊥) → file_line n ≡ reason input
-  refused_file n e h = refused_line (λ k. reason_after (reason_refusal_after k input) input) (λ _. refl) refl h ∙ by_file n e
+  pub refused_file : {A : Type 0} {answer : Result A Refusal} {why : Refusal} → numbers.number_in answer ≡ file_refusal file
+      → answer ≡ Err why → file_line (number_of why) ≡ reason input
+  refused_file {answer = answer} asked is =
+      refused_answer (λ k. reason_after (reason_refusal_after k input) input) (λ _. refl) refl is ∙ by_file (numbers.number_in answer) asked
 
   module _ (accepted : file_refusal file ≡ 0) {number : ℕ} (asked : number ≡ number_in input) where
     same_test : no_such_event number file ≡ no_such_event (number_in input) (file_in input)

@@ -1,5 +1,6 @@
 // "the chain of the current timeslice, thread by thread from the owner"; "The chain is one line of numbers with single spaces, or `-`".
-ghost use Rattle.std.specs.Prelude.{◌≡◌, ◌++◌};
+ghost use Rattle.std.specs.Prelude.{◌≡◌, ◌++◌, cond};
+ghost use Rattle.rules.specs.Holds.{linked};
 ghost use Rattle.rules.specs.Key.{bytes, decimal};
 ghost use Rattle.rules.specs.Reason.{threads_from, spaced, numbers_line, chain_line};
 ghost use Rattle.text.specs.Put.{Put};
@@ -10,19 +11,15 @@ use dispatcher::Machine;
 use rules::{Hold, Running, Thread};
 use tables::lives::count_live;
 use tables::lookup::{thread_at, timeslice_at};
-use tables::records::is_linked;
 use text::{put_byte, put_bytes, put_decimal};
 
-// The thread that a link leads to; 0 without a link.
-fn linked_thread(hold: Hold) -> u8
-    ensures { result ≡ linked_thread hold }
+// The thread that a link leads to.
+fn linked_thread(hold: Hold) -> Option<u8>
+    ensures { result ≡ cond (linked hold) (Some (linked_thread hold)) None }
 {
     match hold {
-        Hold::Ready => 0,
-        Hold::Idle => 0,
-        Hold::Blocked => 0,
-        Hold::Calling(server) => server,
-        Hold::Helping(server) => server,
+        Hold::Calling(server) | Hold::Helping(server) => Some(server),
+        Hold::Ready | Hold::Idle | Hold::Blocked => None,
     }
 }
 
@@ -40,15 +37,11 @@ fn put_later(out: &mut [u8], at: usize, threads: [Thread; 128], links: u8, from:
 {
     let mut place = at;
     let mut n = from;
-    let mut left = links;
-    while 0 < left {
-        left -= 1;
-        let thread = thread_at(threads, n);
-        let hold = thread.hold;
-        if !is_linked(hold) {
-            return put_byte(out, place, b'\n');
-        }
-        n = linked_thread(hold);
+    for _ in 0..links {
+        let Some(next) = linked_thread(thread_at(threads, n).hold) else {
+            break;
+        };
+        n = next;
         place = put_next(out, place, n);
     }
     put_byte(out, place, b'\n')
@@ -64,19 +57,10 @@ fn put_chain(out: &mut [u8], at: usize, threads: [Thread; 128], links: u8, from:
 pub fn put_chain_line(out: &mut [u8], machine: Machine) -> usize
     ensures { Put out.old out.new 0 result (chain_line (shown machine) machine.running) }
 {
-    let running = machine.running;
-    match running {
-        Running::Nothing => put_bytes(out, 0, b"-\n"),
-        Running::Runs {
-            thread,
-            timeslice,
-            count,
-        } => {
-            let threads = machine.threads;
-            let timeslices = machine.timeslices;
-            let current = timeslice_at(timeslices, timeslice);
-            let links = count_live(threads);
-            put_chain(out, 0, threads, links, current.owner)
-        }
-    }
+    let Running::Runs { timeslice, .. } = machine.running else {
+        return put_bytes(out, 0, b"-\n");
+    };
+    let threads = machine.threads;
+    let current = timeslice_at(machine.timeslices, timeslice);
+    put_chain(out, 0, threads, count_live(threads), current.owner)
 }

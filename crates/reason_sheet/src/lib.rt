@@ -1,7 +1,7 @@
 #![tactic(auto)]
 // From an event number and a file's bytes to the bytes of the reason, document 02, [5]. The reason is defined in rules, specs/Reason.antt.
 // The two numbers that a program over this crate needs, how much it must read and how much it must write, are fixed here by contracts.
-ghost use Rattle.std.specs.Prelude.{ℕ, ◌<◌, ◌≡◌, List, ◌++◌, length, take, drop};
+ghost use Rattle.std.specs.Prelude.{ℕ, ◌≡◌, List, ◌++◌, length, take, drop};
 ghost use Rattle.rules.specs.Reason.{reason};
 
 mod causes;
@@ -10,22 +10,16 @@ mod reached;
 
 use causes::put_causes;
 use chain::put_chain_line;
-use event_file::length_field;
-use event_file::reader::file_refusal;
+use event_file::{check_file, length_field};
 use reached::reach;
-use text::put_file_line;
+use rules::Refusal;
+use text::{put_file_line, zeros};
 
 // Room for the reason of every event: `reason_fits`, in crate text.
 pub const ROOM: usize = 4096;
 
 // The number's 4 bytes, and one byte more than a file may have: `enough_for_reason`, in crate text.
 const INPUT: usize = 65541;
-
-fn zeros() -> [u8; INPUT]
-    ensures { 65540 < length result }
-{
-    [0; INPUT]
-}
 
 // A buffer for what is read. Of an input of any length it holds enough: the reason of that much is the reason of the whole.
 pub fn input() -> [u8; INPUT]
@@ -44,15 +38,12 @@ pub fn write_reason(input: &[u8], out: &mut [u8; ROOM]) -> usize
     }
     let number = length_field(input);
     let file = &input[4..];
-    let refusal = file_refusal(file);
-    if refusal != 0 {
-        return put_file_line(out, 0, refusal);
+    if let Err(refusal) = check_file(file) {
+        return put_file_line(out, 0, u8::from(refusal));
     }
-    let there = reach(file, number);
-    if !there.found {
-        return put_file_line(out, 0, 19);
-    }
-    let machine = there.machine;
+    let Some(machine) = reach(file, number) else {
+        return put_file_line(out, 0, u8::from(Refusal::NoSuchEvent));
+    };
     let next = put_chain_line(out, machine);
     put_causes(out, next, machine)
 }

@@ -6,37 +6,20 @@ ghost use Rattle.reason_sheet.specs.Arrived.{Arrived};
 use dispatcher::Machine;
 use event_file::{Found, step};
 
-// Whether the file has such an event, and the machine after it.
-#[derive(Clone, Copy)]
-pub struct Reached {
-    pub found: bool,
-    pub machine: Machine,
-}
-
-// Dispatches one event after the other, so many of them.
-pub fn reach(file: &[u8], number: usize) -> Reached
+// The machine after the event of that number, if the file has one: dispatches one event after the other, so many of them.
+pub fn reach(file: &[u8], number: usize) -> Option<Machine>
     requires { file_refusal file.now ≡ 0 }
     ensures { Arrived file.now number result }
 {
     let mut machine = Machine::empty();
     let mut offset = 5;
-    let mut left = number;
-    while 0 < left {
+    for _ in 0..number {
         let read = step(file, offset);
-        let found = read.found;
-        let Found::Record(event) = found else {
-            return Reached {
-                found: false,
-                machine,
-            };
+        let Found::Record(event) = read.found else {
+            return None;
         };
-        let answered = machine.dispatch(event);
-        machine = answered.machine;
+        let _ = machine.dispatch(event);
         offset = read.offset;
-        left -= 1;
     }
-    Reached {
-        found: 0 < number,
-        machine,
-    }
+    (0 < number).then_some(machine)
 }

@@ -1,6 +1,6 @@
 -- EVENT BY EVENT from an offset of the file on: the events gone and those left make the whole, the machine is the one after those gone, and
 -- the links are theirs.
-use Prim.Native.Nat.{ℕ, ◌+◌, ◌-◌, ◌*◌, ◌≤◌, ◌<◌}
+use Prim.Native.Nat.{ℕ, suc, ◌+◌, ◌*◌, ◌≤◌, ◌<◌}
 use native.Mathlib.Omega.{arith}
 use mathlib.Core.Path.{◌≡◌, refl, sym, ap, ◌∙◌, subst}
 use mathlib.Core.List.{List, [], ◌∷◌, ◌++◌, append-nil}
@@ -25,7 +25,7 @@ use Rattle.event_file.specs.Left.{events_at, Left}
 use Rattle.event_file.specs.contracts.reader.Found.{the_type}
 use Rattle.event_file.proofs.Steps.{first, none_left}
 use Rattle.dispatcher.specs.declared.Machine.{Machine}
-use Rattle.dispatcher.specs.declared.Answered.{Answered}
+use Rattle.dispatcher.specs.Promise.{Answered}
 use Rattle.dispatcher.specs.Shown.{shown, sound_machine}
 use Rattle.dispatcher.specs.Promise.{Answers}
 use Rattle.dispatcher.proofs.Runs.{dispatched_sound}
@@ -69,10 +69,10 @@ begin {file} {from} n r =
 module _ {file : List ℕ} {from n : ℕ} {m₀ m : Machine} {offset links still : ℕ} (a : Along file from n m₀ m offset links still) where
   -- the next event is found and dispatched
   unfoldable pub onward : {e : Event} {to : ℕ} {r : Answered} → Bytes file → event e ≡ (stepped file offset).found
-      → to ≡ (stepped file offset).offset → Answers (events.dispatch e (shown m)) m r → 0 < still
-      → Along file from n m₀ r.machine to (links + r.links) (still - 1)
+      → to ≡ (stepped file offset).offset → Answers (events.dispatch e (shown m)) m r → (fewer : ℕ) → still ≡ suc fewer
+      → Along file from n m₀ r.machine to (links + r.links) fewer
   unfolding run after links_in_all
-  onward {e} {to} {r} narrow found moved given more =
+  onward {e} {to} {r} narrow found moved given fewer more =
       let f = first a.left found moved in
       let gone = a.gone in
       let fits = ranged e (step_fits file offset e narrow (sym found)) in

@@ -6,6 +6,10 @@ use mathlib.Core.List.{List, [], ◌∷◌}
 use mathlib.Core.Bool.{true}
 use types.Run.{OneOf}
 use denote.Enum.Declared.{tag_of}
+use Rattle.std.specs.Prelude.{Result, Ok, Err}
+use Rattle.std.specs.Result.{result_unwrap_or}
+use Rattle.rules.specs.declared.refusal.Refusal.{Refusal}
+use Rattle.rules.specs.RefusalNumbers.{links_in}
 use Rattle.rules.specs.declared.Event.{Event}
 use Rattle.rules.specs.State.{empty}
 use Rattle.rules.specs.Sound.{sound}
@@ -24,7 +28,7 @@ use Rattle.event_file.specs.contracts.reader.Found.{the_type}
 use Rattle.event_file.specs.Left.{Left}
 use Rattle.event_file.proofs.Steps.{all_left, first, none_left}
 use Rattle.dispatcher.specs.declared.Machine.{Machine}
-use Rattle.dispatcher.specs.declared.Answered.{Answered}
+use Rattle.dispatcher.specs.Promise.{Answered}
 use Rattle.dispatcher.specs.Shown.{shown, stored, sound_machine, empty_machine}
 use Rattle.dispatcher.specs.Promise.{Answers}
 use Rattle.dispatcher.proofs.Runs.{shows_empty, empty_machine_sound, dispatched_sound}
@@ -40,6 +44,11 @@ pub record Ahead (bytes : List ℕ) (offset : ℕ) (m : Machine) (answers : List
 -- an answer of the code as the definitions have it
 abbrev pub answer_of : Answered → events.Answered
 answer_of r = record { state = shown r.machine; refusal = r.refusal; links = r.links }
+
+-- the links that the code says
+pub links_said : (r : Result ℕ Refusal) → result_unwrap_or r 0 ≡ links_in r
+links_said (Ok links) = refl
+links_said (Err refusal) = refl
 
 -- before the first event of an accepted file
 unfoldable pub begins : (bytes : List ℕ) (m : Machine) → m ≡ empty_machine → Bytes bytes → file_refusal bytes ≡ 0

@@ -1,22 +1,23 @@
 #![tactic(auto)]
 // One turn of a file is `event_file::step` and then `Machine::dispatch`; proofs/Turns.antt has its law, which every program that replays a
-// file cites. There is no function for the two calls: handing the machine through one more border copied it three times more an event.
+// file cites.
 ghost use Rattle.std.specs.Prelude.{◌≡◌};
+ghost use Rattle.rules.specs.RefusalNumbers.{number_in};
 ghost use Rattle.replay.specs.Behind.{refusal_behind};
 ghost use Rattle.replay.specs.Running.{Ready, RanOn};
 
 use dispatcher::Machine;
-use event_file::reader::file_refusal;
-use event_file::{Found, step};
+use event_file::{Found, check_file, step};
+use rules::Refusal;
 
 // "An input cut short before the file prints `file 14`; a refused file prints its `file` line." The file begins at this place.
-pub fn refusal_behind(input: &[u8], at: usize) -> u8
-    ensures { result ≡ refusal_behind at input.now }
+pub fn check_behind(input: &[u8], at: usize) -> Result<(), Refusal>
+    ensures { number_in result ≡ refusal_behind at input.now }
 {
     if input.len() < at {
-        return 14;
+        return Err(Refusal::BadLength);
     }
-    file_refusal(&input[at..])
+    check_file(&input[at..])
 }
 
 // The machine after some events of a file, where the next one begins, and the links that they followed in all.
@@ -36,22 +37,13 @@ pub fn run_events(file: &[u8], from: usize, start: Machine, count: u8) -> Ran
     let mut machine = start;
     let mut offset = from;
     let mut links: u64 = 0;
-    let mut left = count;
-    while 0 < left {
+    for _ in 0..count {
         let read = step(file, offset);
-        let found = read.found;
-        let Found::Record(event) = found else {
-            return Ran {
-                machine,
-                offset,
-                links,
-            };
+        let Found::Record(event) = read.found else {
+            break;
         };
-        let answered = machine.dispatch(event);
-        machine = answered.machine;
-        links += answered.links as u64;
+        links += u64::from(machine.dispatch(event).unwrap_or(0));
         offset = read.offset;
-        left -= 1;
     }
     Ran {
         machine,

@@ -9,8 +9,7 @@ use lib.Dec.{eqb}
 use borrow.Author.Tests.{eq-eqb, ne_eqb}
 use Rattle.rules.specs.declared.Thread.{Thread}
 use Rattle.rules.specs.declared.Chain.{Chain}
-use Rattle.rules.specs.declared.LastThread.{LastThread}
-use Rattle.rules.specs.declared.LastThread.TheVariants.{None, Is}
+use Rattle.std.specs.Prelude.{Option, None, Some}
 use Rattle.rules.specs.State.{hold_at, live_thread_count}
 use Rattle.rules.specs.Holds.{linked_to}
 use Rattle.rules.specs.Walk.{Link, unlinked, donation, helping, no_links, donated, helped, ended, walk_from, walk}
@@ -18,9 +17,9 @@ use Rattle.rules.specs.Walk.{donations_from, donations}
 use Rattle.rules.proofs.Links.Chains.{link_at, To, stop, one_call, one_help, by_link, step}
 use Rattle.rules.proofs.Soundness.Standings.{donation_is, helping_is}
 
-abbrev pub is_none : LastThread → Bool
+abbrev pub is_none : Option ℕ → Bool
 is_none None = true
-is_none (Is n) = false
+is_none (Some n) = false
 
 -- thread m is the last before the end of the chain c from n: the links lead there, all but one of them, and its own link is the end
 pub record Before (ts : List Thread) (n : ℕ) (c : Chain) (m : ℕ) : Type 0 where
@@ -33,7 +32,7 @@ pub record Wider (ts : List Thread) (n : ℕ) : Type 0 where
   -- helping links and all donation links followed, not the donation count, are the links
   pub links : (walk ts n).helping + donations ts n ≡ (walk ts n).links
   -- "the last thread before the end"
-  pub last : (m : ℕ) → (walk ts n).last ≡ Is m → Before ts n (walk ts n) m
+  pub last : (m : ℕ) → (walk ts n).last ≡ Some m → Before ts n (walk ts n) m
   -- "or none where no link was followed or the walk loops"
   pub none : is_none (walk ts n).last ≡ (walk ts n).looped || eqb (walk ts n).links 0
 
@@ -58,7 +57,7 @@ module _ (ts : List Thread) where
   -- a chain so far, from the thread `from` to thread n: no link was followed, or the last from a thread with a link to n
   data Comes (from n : ℕ) (c : Chain) : Type 0 where
     at_once : c.last ≡ None → c.links ≡ 0 → Comes from n c
-    over : {m : ℕ} {d : Chain} → c.last ≡ Is m → To (link_at ts) from no_links m d → d.links + 1 ≡ c.links
+    over : {m : ℕ} {d : Chain} → c.last ≡ Some m → To (link_at ts) from no_links m d → d.links + 1 ≡ c.links
         → linked_to n (hold_at ts m) ≡ true → Comes from n c
 
   -- what a walk says at its end: it has come there, or it loops
@@ -95,7 +94,7 @@ module _ (ts : List Thread) where
   walked from (suc k) n c p so = walked_at from k n c (link_at ts n) refl p so (walked from k)
 
   -- the last thread that a walk names is the last before the end
-  last_before : (from : ℕ) (c : Chain) → Walked from c → (m : ℕ) → c.last ≡ Is m → Before ts from c m
+  last_before : (from : ℕ) (c : Chain) → Walked from c → (m : ℕ) → c.last ≡ Some m → Before ts from c m
   last_before from c (comes l (at_once a b)) m e = let z : ◌≡◌ {A = ℕ} 0 1 = cc in absurd (omega arith)
   last_before from c (comes l (over {m = k} {d = d} a p b h)) m e =
       let z : k ≡ m = cc in

@@ -21,6 +21,7 @@ pub mod Lists
 pub mod Sound
 -- Refusals, operation by operation
 pub mod Refusals
+pub mod RefusalNumbers
 -- Event file and key
 pub mod EventFile
 pub mod Steps

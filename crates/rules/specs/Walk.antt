@@ -1,10 +1,9 @@
 -- Document 01, "The walk".
-use Rattle.std.specs.Prelude.{ℕ, zero, suc, ◌+◌, List, Bool, true, false, cond, not, ◌&&◌, ltb, eqb}
+use Rattle.std.specs.Prelude.{ℕ, zero, suc, ◌+◌, List, Bool, true, false, cond, not, ◌&&◌, ltb, eqb, None, Some}
 use Rattle.rules.specs.declared.Hold.{Hold}
 use Rattle.rules.specs.declared.Hold.TheVariants.{Ready, Idle, Blocked, Calling, Helping}
 use Rattle.rules.specs.declared.Thread.{Thread}
 use Rattle.rules.specs.declared.Chain.{Chain}
-use Rattle.rules.specs.declared.LastThread.TheVariants.{None, Is}
 use Rattle.rules.specs.declared.Slice.{Slice}
 use Rattle.rules.specs.State.{hold_at, owner_at, left_at, live_thread_count}
 
@@ -22,13 +21,13 @@ donated n c =
       count = c.count + 1;
       helper = c.helper;
       helping = c.helping;
-      last = Is n;
+      last = Some n;
     }
 
 -- a helping link is followed, from this thread: the donation count begins anew
 abbrev pub helped : ℕ → Chain → Chain
 helped n c =
-    record { looped = false; end = 0; links = c.links + 1; count = 0; helper = n; helping = c.helping + 1; last = Is n }
+    record { looped = false; end = 0; links = c.links + 1; count = 0; helper = n; helping = c.helping + 1; last = Some n }
 
 -- "until a thread without one"
 abbrev pub ended : ℕ → Chain → Chain

@@ -1,16 +1,21 @@
 #![tactic(auto)]
 // Document 01, "What belongs to the machine", and document 02, [2] to [5]: the records of threads and timeslices, and the events.
 // What they mean is defined in specs/.
+ghost use Rattle.std.specs.Prelude.{◌≡◌};
+
+mod refusal;
+
+pub use refusal::Refusal;
 
 // A thread is a client or a server.
-#[derive(Clone, Copy)]
+#[derive(Clone, Copy, Debug, PartialEq, Eq)]
 pub enum Role {
     Client,
     Server,
 }
 
 // Calling is a donation link to a server, Helping a helping link.
-#[derive(Clone, Copy)]
+#[derive(Clone, Copy, Debug, PartialEq, Eq)]
 pub enum Hold {
     Ready,
     Idle,
@@ -20,14 +25,15 @@ pub enum Hold {
 }
 
 // Orphan: the caller served has gone, and its request is unfinished.
-#[derive(Clone, Copy)]
+#[derive(Clone, Copy, Debug, PartialEq, Eq)]
 pub enum Service {
     Nobody,
     Serving(u8),
     Orphan,
 }
 
-#[derive(Clone, Copy)]
+// Live stays a field beside the others: "Free slots hold one fixed value", which the definition `thread_free` compares whole.
+#[derive(Clone, Copy, Debug, PartialEq, Eq)]
 pub struct Thread {
     pub live: bool,
     pub role: Role,
@@ -49,7 +55,7 @@ impl Thread {
 }
 
 // Spent: nothing is left of it until it is refilled.
-#[derive(Clone, Copy)]
+#[derive(Clone, Copy, Debug, PartialEq, Eq)]
 pub enum Place {
     Queue,
     Behind(u8),
@@ -58,7 +64,7 @@ pub enum Place {
     Spent,
 }
 
-#[derive(Clone, Copy)]
+#[derive(Clone, Copy, Debug, PartialEq, Eq)]
 pub struct Timeslice {
     pub owner: u8,
     pub priority: u8,
@@ -82,7 +88,7 @@ impl Timeslice {
 }
 
 // "A timeslice has an owner, a priority, a quantum and what is left": one without its place, as the plain machine has it.
-#[derive(Clone, Copy)]
+#[derive(Clone, Copy, Debug, PartialEq, Eq)]
 pub struct Slice {
     pub owner: u8,
     pub priority: u8,
@@ -103,8 +109,24 @@ impl Slice {
     };
 }
 
-// The running thread, the current timeslice, which pays, and the donation count.
-#[derive(Clone, Copy)]
+// A timeslice without its place.
+impl From<Timeslice> for Slice {
+    ghost from_gives = { λ x slice. slice
+        ≡ record { owner = x.owner; priority = x.priority; quantum = x.quantum; left = x.left } };
+
+    fn from(x: Timeslice) -> Slice {
+        Slice {
+            owner: x.owner,
+            priority: x.priority,
+            quantum: x.quantum,
+            left: x.left,
+        }
+    }
+}
+
+// The running thread, the current timeslice, which pays, and the donation count. No Option: that nothing runs is a state of its own in every
+// definition (`nothing_runs`, State), and is printed as one.
+#[derive(Clone, Copy, Debug, PartialEq, Eq)]
 pub enum Running {
     Nothing,
     Runs {
@@ -114,17 +136,11 @@ pub enum Running {
     },
 }
 
-// "the last thread before the end, or none where no link was followed or the walk loops"
-#[derive(Clone, Copy)]
-pub enum LastThread {
-    None,
-    Is(u8),
-}
-
 // What a walk finds. The count is the donation count; the helper is the thread whose helping link was
 // followed last, 0 where there is none; helping is the number of helping links followed. A loop has only
-// its links and how many of them were helping.
-#[derive(Clone, Copy)]
+// its links and how many of them were helping. Last: "the last thread before the end, or none where no link was followed
+// or the walk loops". Looped stays a field beside the others: the definitions `walk_from` and `loop` and the theorem `wider` speak of it.
+#[derive(Clone, Copy, Debug, PartialEq, Eq)]
 pub struct Chain {
     pub looped: bool,
     pub end: u8,
@@ -132,11 +148,11 @@ pub struct Chain {
     pub count: u8,
     pub helper: u8,
     pub helping: u8,
-    pub last: LastThread,
+    pub last: Option<u8>,
 }
 
 // Document 02, [5]: why a timeslice that stands above the current one does not run. Waits: for the thread at its chain's end.
-#[derive(Clone, Copy)]
+#[derive(Clone, Copy, Debug, PartialEq, Eq)]
 pub enum Cause {
     Waits(u8),
     Loops,
@@ -144,7 +160,7 @@ pub enum Cause {
 }
 
 // The events, each with the operands of its record in an event file.
-#[derive(Clone, Copy)]
+#[derive(Clone, Copy, Debug, PartialEq, Eq)]
 pub enum Event {
     Create {
         thread: u8,

@@ -9,6 +9,9 @@ use lib.Dec.{ltb}
 use lib.ListN.{length, get_or, drop, drop_of_length-le}
 use lib.Seq.{drop-cons}
 use borrow.Author.Tests.{lt-ltb, le-ltb}
+use Rattle.std.specs.Prelude.{Result, Err}
+use Rattle.rules.specs.declared.refusal.Refusal.{Refusal}
+use Rattle.rules.specs.RefusalNumbers.{number_of, number_in}
 use Rattle.rules.specs.State.{empty}
 use Rattle.rules.specs.Tests.{filter}
 use Rattle.rules.specs.EventFile.{Bytes, file_refusal, events_of}
@@ -22,14 +25,15 @@ use Rattle.rules.proofs.Files.Inverse.{events_fit}
 use Rattle.rules.proofs.Demands.{empty_sound}
 use Rattle.rules.proofs.Payments.{AllBounded, all_bounded}
 use Rattle.rules.proofs.Shares.{has_units, has_none, units_most, printed}
-use Rattle.text.proofs.Refused.{refused_line}
+use Rattle.text.proofs.Refused.{refused_answer}
 use Rattle.shares_sheet.specs.declared.tally.Tally.{Tally}
 use Rattle.shares_sheet.specs.Tallies.{Tallied, Within, tally_lines}
 
 -- a refused file
-pub refused_shares : (file : List ℕ) (n : ℕ) → n ≡ file_refusal file → (n ≡ 0 → ⊥) → file_line n ≡ shares file
+pub refused_shares : (file : List ℕ) {A : Type 0} {answer : Result A Refusal} {why : Refusal} → number_in answer ≡ file_refusal file
+    → answer ≡ Err why → file_line (number_of why) ≡ shares file
 unfolding shares
-refused_shares file n e h = refused_line (λ k. shares_after k file) (λ _. refl) e h
+refused_shares file asked is = refused_answer (λ k. shares_after k file) (λ _. refl) asked is
 
 abbrev share_of : List Payment → ℕ → Share
 share_of ps t = share (total ps) t (units_of t ps)

@@ -25,7 +25,7 @@ use Rattle.event_file.specs.Answers.{shown_found}
 use Rattle.event_file.specs.contracts.reader.Found.{the_type}
 use Rattle.event_file.proofs.Steps.{none_left}
 use Rattle.dispatcher.specs.declared.Machine.{Machine}
-use Rattle.dispatcher.specs.declared.Answered.{Answered}
+use Rattle.dispatcher.specs.Promise.{Answered}
 use Rattle.dispatcher.specs.Shown.{shown, stored, sound_machine, empty_machine}
 use Rattle.dispatcher.proofs.Runs.{shows_empty}
 use Rattle.dispatcher.specs.Promise.{Answers}

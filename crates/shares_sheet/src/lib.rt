@@ -7,7 +7,7 @@ ghost use Rattle.rules.specs.Shares.{shares};
 mod lines;
 mod tally;
 
-use event_file::reader::file_refusal;
+use event_file::check_file;
 use lines::put_shares;
 use tally::sum_payments;
 use text::{INPUT, file_buffer, put_file_line};
@@ -28,10 +28,8 @@ pub fn write_shares(file: &[u8], out: &mut [u8; ROOM]) -> usize
     ensures { (result ≡ length (shares file.now))
         × (out.new ≡ shares file.now ++ drop (length (shares file.now)) out.old) }
 {
-    let refusal = file_refusal(file);
-    if refusal != 0 {
-        return put_file_line(out, 0, refusal);
+    if let Err(refusal) = check_file(file) {
+        return put_file_line(out, 0, u8::from(refusal));
     }
-    let paid = sum_payments(file);
-    put_shares(out, paid)
+    put_shares(out, sum_payments(file))
 }

@@ -5,7 +5,6 @@ ghost use Rattle.text.specs.Put.{Put};
 ghost use Rattle.shares_sheet.specs.Tallies.{Within, tally_lines};
 
 use crate::tally::Tally;
-use rules::Timeslice;
 use text::{put_byte, put_column, put_decimal};
 
 // "units charged, whole parts per thousand of the total, and the remainder"
@@ -26,14 +25,10 @@ pub fn put_shares(out: &mut [u8], paid: Tally) -> usize
     requires { Within paid }
     ensures { Put out.old out.new 0 result (tally_lines paid.total 0 paid.units) }
 {
-    let all = paid.units;
     let total = paid.total;
     let mut at = 0;
-    let mut i: usize = 0;
-    while i < Timeslice::LIMIT {
-        let timeslice = i as u8;
-        let units = all[i];
-        i += 1;
+    for timeslice in 0..128 {
+        let units = paid.units[timeslice as usize];
         if 0 < units {
             at = put_share(out, at, total, timeslice, units);
         }

@@ -6,7 +6,7 @@ ghost use Rattle.shares_sheet.specs.Tallies.{Tallied, Added, Room};
 
 use dispatcher::Machine;
 use event_file::{Found, step};
-use rules::{Event, Running, Timeslice};
+use rules::{Event, Refusal, Running, Timeslice};
 
 // The units of each number, and their sum.
 #[derive(Clone, Copy)]
@@ -15,7 +15,8 @@ pub struct Tally {
     pub total: u64,
 }
 
-// Adds what an event pays to the units of the timeslice that was current when it came, and gives that much.
+// Adds what an event pays to the units of the timeslice that was current when it came, and gives that much. The refusal is a number, as
+// the definition `paid` has it.
 fn add_payment(units: &mut [u64], refusal: u8, running: Running, event: Event) -> u64
     requires { Room units.old (paid refusal running event) }
     ensures { Added units.old units.new (paid refusal running event) result }
@@ -26,12 +27,7 @@ fn add_payment(units: &mut [u64], refusal: u8, running: Running, event: Event) -
     let Event::Charge { units: charged } = event else {
         return 0;
     };
-    let Running::Runs {
-        thread,
-        timeslice,
-        count,
-    } = running
-    else {
+    let Running::Runs { timeslice, .. } = running else {
         return 0;
     };
     units[timeslice as usize] += charged as u64;
@@ -49,14 +45,12 @@ pub fn sum_payments(file: &[u8]) -> Tally
     let mut total = 0;
     loop {
         let read = step(file, offset);
-        let found = read.found;
-        let Found::Record(event) = found else {
+        let Found::Record(event) = read.found else {
             return Tally { units, total };
         };
         let running = machine.running;
-        let answered = machine.dispatch(event);
-        machine = answered.machine;
-        total += add_payment(&mut units, answered.refusal, running, event);
+        let refusal = Refusal::number_in(machine.dispatch(event));
+        total += add_payment(&mut units, refusal, running, event);
         offset = read.offset;
     }
 }

@@ -1,6 +1,7 @@
 -- A run that stops at the first event refused with the number: of the events gone none is.
 use Prim.Native.Nat.{ℕ}
-use mathlib.Core.Path.{◌≡◌, refl, sym, ap, ◌∙◌}
+use Rattle.std.specs.Prelude.{Option, Some, None, is_some, unwrap_or}
+use mathlib.Core.Path.{◌≡◌, refl, sym, ap, ◌∙◌, subst}
 use mathlib.Core.List.{List, [], ◌∷◌, ◌++◌, append-nil}
 use mathlib.Core.Bool.{Bool, true, false, not, ◌&&◌, ◌||◌}
 use types.Run.{OneOf}
@@ -18,11 +19,12 @@ use Rattle.event_file.specs.declared.reader.Found.{Found}
 use Rattle.event_file.specs.Answers.{shown_found}
 use Rattle.event_file.specs.contracts.reader.Found.{the_type}
 use Rattle.dispatcher.specs.declared.Machine.{Machine}
-use Rattle.dispatcher.specs.declared.Answered.{Answered}
+use Rattle.dispatcher.specs.Promise.{Answered}
 use Rattle.dispatcher.specs.Shown.{shown, sound_machine}
 use Rattle.event_file.specs.Left.{events_at}
 use Rattle.shorten_sheet.specs.Standing.{Stand}
-use Rattle.shorten_sheet.specs.Promises.{Asks}
+use Rattle.shorten_sheet.specs.declared.ask.Asked.{Asked}
+use Rattle.shorten_sheet.specs.Promises.{Asks, FirstAsked}
 use Rattle.shorten_sheet.proofs.Standing.{none_stands}
 use Rattle.shorten_sheet.proofs.Going.{Along, begin, Turn, Onward, onward}
 
@@ -38,13 +40,13 @@ asking k m x h = record { along = begin m x h; quiet = none_refused k (shown m) 
 module _ {k : ℕ} {file : List ℕ} {from : ℕ} {s : State} {at : ℕ} {m : Machine} (a : Asking k file from s at m) where
   -- no event is left
   pub none_asked : (f : Found) → OneOf (1 ∷ 2 ∷ []) (tag_of the_type f) → shown_found f ≡ (stepped file at).found
-      → Asks k (events_at from file) s from (record { found = false; at = at; to = at })
+      → Asks k (events_at from file) s from None
   none_asked f other found =
       let none = none_stands a.along.stands f other found in
       let all = a.along.all ∙ ap (λ (l : List Event). a.along.gone ++ l) none ∙ append-nil a.along.gone in
       record {
         found = sym (ap (λ (l : List Event). refused_from k l s) all ∙ a.quiet);
-        first = λ z. clash false z refl;
+        first = λ a none. clash true refl (ap is_some (sym none));
       }
 
   -- an event is found and dispatched
@@ -68,13 +70,14 @@ module _ {k : ℕ} {file : List ℕ} {from : ℕ} {s : State} {at : ℕ} {m : Ma
         ∙ ap (λ (n : ℕ). (not (eqb k 0) && eqb k n) || refused_from k es (offer e there).state) o.number)
 
     -- it is refused with the number
-    pub asked_here : tested ≡ true → Asks k (events_at from file) s from (record { found = true; at = at; to = to })
+    pub asked_here : tested ≡ true → Asks k (events_at from file) s from (Some (record { at = at; to = to }))
     asked_here h =
         let refused : (es : List Event) → refused_from k (a.along.gone ++ (e ∷ es)) s ≡ true = λ es.
         now_or_later es ∙ or_true_right (refused_from k a.along.gone s) _ (or_true_left tested _ h) in
         record {
           found = sym (ap (λ (l : List Event). refused_from k l s) o.split ∙ refused o.later);
-          first = λ _.
+          first = λ b same.
+              subst (λ (q : Option Asked). FirstAsked k (events_at from file) s from (unwrap_or q b)) same
               record {
                 before = a.along.gone;
                 event = e;

@@ -15,8 +15,11 @@ use Rattle.rules.proofs.Files.Records.{ranged}
 use Rattle.rules.proofs.Files.Inverse.{step_fits}
 use Rattle.rules.proofs.Files.Appending.{records_of_one}
 use Rattle.rules.proofs.Shortening.Refusing.{after_append}
+use Rattle.event_file.specs.declared.reader.Found.{Found}
+use Rattle.event_file.specs.declared.reader.Found.TheVariants.{Record}
+use Rattle.event_file.specs.Answers.{shown_found}
 use Rattle.dispatcher.specs.declared.Machine.{Machine}
-use Rattle.dispatcher.specs.declared.Answered.{Answered}
+use Rattle.dispatcher.specs.Promise.{Answered}
 use Rattle.dispatcher.specs.Shown.{shown, sound_machine}
 use Rattle.dispatcher.specs.Promise.{Answers}
 use Rattle.dispatcher.proofs.Runs.{dispatched_sound}
@@ -47,6 +50,13 @@ pub record Turn (bytes : List ℕ) (at to : ℕ) (m : Machine) (e : Event) (r : 
   pub found : event e ≡ (stepped bytes at).found
   pub moved : to ≡ (stepped bytes at).offset
   pub given : Answers (events.dispatch e (shown m)) m r
+
+-- what the code's step and the machine say of it
+pub turn : {bytes : List ℕ} {at to : ℕ} {m : Machine} {e : Event} {r : Answered} (f : Found) → Bytes bytes → f ≡ Record e
+    → shown_found f ≡ (stepped bytes at).found → to ≡ (stepped bytes at).offset → Answers (events.dispatch e (shown m)) m r
+    → Turn bytes at to m e r
+turn f narrow is found moved given =
+    record { narrow = narrow; found = sym (ap shown_found is) ∙ found; moved = moved; given = given }
 
 -- what a turn leaves
 pub record Onward (bytes : List ℕ) (from : ℕ) (s : State) (es gone : List Event) (at to : ℕ) (e : Event) (r : Answered) : Type 0 where

@@ -6,6 +6,9 @@ use mathlib.Core.List.{List, [], ◌∷◌, ◌++◌}
 use mathlib.Core.Bool.{Bool}
 use lib.ListN.{length, get_or, take, drop, replicate, length-replicate, length-append, length-drop}
 use lib.Seq.{take_all, take-append_seam, take-append-le, drop-append-le, length-take-le}
+use Rattle.std.specs.Prelude.{Result, Err}
+use Rattle.rules.specs.declared.refusal.Refusal.{Refusal}
+use Rattle.rules.specs.RefusalNumbers.{number_of, number_in}
 use Rattle.rules.specs.declared.Event.{Event}
 use Rattle.rules.specs.EventFile.{Bytes, four_bytes, records_of, file_of, file_refusal, events_of}
 use Rattle.rules.specs.Key.{file_line}
@@ -15,7 +18,7 @@ use Rattle.rules.proofs.Files.ReadThenWritten.{bytes_drop}
 use Rattle.rules.proofs.Files.Inverse.{as_written}
 use Rattle.text.specs.Put.{Put}
 use Rattle.text.proofs.Puts.{at_front, keeps}
-use Rattle.text.proofs.Refused.{refused_line}
+use Rattle.text.proofs.Refused.{refused_answer}
 use Rattle.event_file.specs.Left.{events_at}
 use Rattle.shorten_sheet.specs.Standing.{Stand}
 use Rattle.shorten_sheet.specs.Promises.{Rests}
@@ -117,9 +120,10 @@ module _ (file : List ℕ) (narrow : Bytes file) (h : file_refusal file ≡ 0) w
 
 -- BY CASES: a refused file, and an accepted one, by whether some event is refused with the number
 module _ (k : ℕ) (file : List ℕ) where
-  pub refused_shorter : (n : ℕ) → n ≡ file_refusal file → (n ≡ 0 → ⊥) → file_line n ≡ shorter (k ∷ file)
+  pub refused_shorter : {A : Type 0} {answer : Result A Refusal} {why : Refusal} → number_in answer ≡ file_refusal file
+      → answer ≡ Err why → file_line (number_of why) ≡ shorter (k ∷ file)
   unfolding shorter
-  refused_shorter n e h = refused_line (λ m. shorter_after m k file) (λ _. refl) e h
+  refused_shorter asked is = refused_answer (λ m. shorter_after m k file) (λ _. refl) asked is
 
   pub accepted_shorter : file_refusal file ≡ 0 → {b : Bool} → refused_in k (events_of file) ≡ b
       → shorter_if b k (events_of file) ≡ shorter (k ∷ file)

@@ -1,5 +1,5 @@
 -- What the functions hand back.
-use Rattle.std.specs.Prelude.{ℕ, ◌+◌, ◌-◌, ◌≤◌, ◌≡◌, List, [], ◌∷◌, ◌++◌, reverse, true, false, cond, length, take, drop}
+use Rattle.std.specs.Prelude.{ℕ, ◌+◌, ◌-◌, ◌≤◌, ◌≡◌, List, [], ◌∷◌, ◌++◌, reverse, true, false, cond, length, take, drop, Option, Some, is_some}
 use Rattle.rules.specs.declared.Event.{Event}
 use Rattle.rules.specs.State.{State}
 use Rattle.rules.specs.Lists.{after}
@@ -22,9 +22,9 @@ pub record FirstAsked (k : ℕ) (es : List Event) (s : State) (from : ℕ) (r : 
   pub begins : r.at ≡ from + length (records_of before)
   pub ends : r.to ≡ r.at + length (record_of event)
 
-pub record Asks (k : ℕ) (es : List Event) (s : State) (from : ℕ) (r : Asked) : Type 0 where
-  pub found : r.found ≡ refused_from k es s
-  pub first : r.found ≡ true → FirstAsked k es s from r
+pub record Asks (k : ℕ) (es : List Event) (s : State) (from : ℕ) (r : Option Asked) : Type 0 where
+  pub found : is_some r ≡ refused_from k es s
+  pub first : (a : Asked) → r ≡ Some a → FirstAsked k es s from a
 
 -- the machine before one of the events, and where its record begins: the first only if it is the only one
 pub record Reaches (es : List Event) (s : State) (from : ℕ) (r : Reached) : Type 0 where

@@ -7,27 +7,24 @@ ghost use Rattle.shorten_sheet.specs.Promises.{Asks};
 
 use dispatcher::Machine;
 use event_file::{Found, step};
+use rules::Refusal;
 
-// Whether there is such an event, and where the record of the first begins and ends.
-#[derive(Clone, Copy)]
+// Where the record of an event begins and ends.
+#[derive(Clone, Copy, Debug, PartialEq, Eq)]
 pub struct Asked {
-    pub found: bool,
     pub at: usize,
     pub to: usize,
 }
 
-// 0 is no refusal.
+// Both are numbers, as the question has one: 0 is no refusal.
 fn is_asked(refusal: u8, number: u8) -> bool
     ensures { result ≡ (not (eqb number 0) && eqb number refusal) }
 {
-    if number == 0 {
-        return false;
-    }
-    number == refusal
+    number != 0 && number == refusal
 }
 
-// Dispatches the events from a place of the file on, up to its end.
-pub fn ask(file: &[u8], from: usize, start: Machine, number: u8) -> Asked
+// Dispatches the events from a place of the file on, up to the first that is refused with the number.
+pub fn ask(file: &[u8], from: usize, start: Machine, number: u8) -> Option<Asked>
     requires { (Stand file.now from (events_at from file.now)) × (sound_machine start ≡ true) }
     ensures { Asks number (events_at from file.now) (shown start) from result }
 {
@@ -35,23 +32,16 @@ pub fn ask(file: &[u8], from: usize, start: Machine, number: u8) -> Asked
     let mut at = from;
     loop {
         let read = step(file, at);
-        let found = read.found;
-        let Found::Record(event) = found else {
-            return Asked {
-                found: false,
-                at,
-                to: at,
-            };
+        let Found::Record(event) = read.found else {
+            return None;
         };
-        let answered = machine.dispatch(event);
-        if is_asked(answered.refusal, number) {
-            return Asked {
-                found: true,
+        let refusal = Refusal::number_in(machine.dispatch(event));
+        if is_asked(refusal, number) {
+            return Some(Asked {
                 at,
                 to: read.offset,
-            };
+            });
         }
-        machine = answered.machine;
         at = read.offset;
     }
 }

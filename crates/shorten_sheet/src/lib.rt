@@ -15,21 +15,16 @@ mod rounds;
 
 use ask::ask;
 use dispatcher::Machine;
-use event_file::reader::file_refusal;
+use event_file::check_file;
 use rounds::shorten;
-use text::{file_buffer, put_bytes, put_file_line, put_head};
+use rules::Refusal;
+use text::{file_buffer, put_bytes, put_file_line, put_head, zeros};
 
 // Room for every answer: `shorter_fits`, proofs/Room.antt.
 pub const ROOM: usize = 65536;
 
 // The number's byte, and one byte more than a file may have: `enough_for_shorter`, proofs/Room.antt.
 const INPUT: usize = 65538;
-
-fn zeros() -> [u8; INPUT]
-    ensures { 65537 < length result }
-{
-    [0; INPUT]
-}
 
 // A buffer for what is read. Of an input of any length it holds enough: the answer to that much is the answer to the whole.
 pub fn input() -> [u8; INPUT]
@@ -72,13 +67,11 @@ pub fn write_shorter(input: &[u8], out: &mut [u8; ROOM]) -> usize
     }
     let number = input[0];
     let file = &input[1..];
-    let refusal = file_refusal(file);
-    if refusal != 0 {
-        return put_file_line(out, 0, refusal);
+    if let Err(refusal) = check_file(file) {
+        return put_file_line(out, 0, u8::from(refusal));
     }
-    let asked = ask(file, 5, Machine::empty(), number);
-    if !asked.found {
-        return put_file_line(out, 0, 26);
+    if ask(file, 5, Machine::empty(), number).is_none() {
+        return put_file_line(out, 0, u8::from(Refusal::NeverRefused));
     }
     put_shortened(out, file, number)
 }

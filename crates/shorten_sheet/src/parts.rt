@@ -35,8 +35,7 @@ pub fn try_part(
         let kept = try_part(work, middle, half.machine, to, at, number);
         return try_part(work, from, start, middle, kept, number);
     }
-    let asked = ask(&work[..], at, start, number);
-    if asked.found {
+    if ask(&work[..], at, start, number).is_some() {
         return at;
     }
     move_up(work, from, to, at)

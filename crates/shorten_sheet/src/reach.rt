@@ -26,15 +26,13 @@ pub fn reach(file: &[u8], from: usize, start: Machine, behind: usize) -> Reached
     let mut most = 0;
     loop {
         let read = step(file, at);
-        let found = read.found;
-        let Found::Record(event) = found else {
+        let Found::Record(event) = read.found else {
             return Reached { machine, at };
         };
         if file.len() - read.offset <= most {
             return Reached { machine, at };
         }
-        let answered = machine.dispatch(event);
-        machine = answered.machine;
+        let _ = machine.dispatch(event);
         at = read.offset;
         most = behind;
     }

@@ -24,7 +24,10 @@ pub fn shorten(work: &mut [u8], number: u8) -> Rest
     let mut from = 5;
     let mut to = work.len();
     loop {
-        let asked = ask(&work[..to], from, Machine::empty(), number);
+        let Some(asked) = ask(&work[..to], from, Machine::empty(), number) else {
+            // Some event of those left is refused with the number.
+            unreachable!();
+        };
         to = asked.to;
         let last = asked.at;
         let first = try_part(&mut work[..to], from, Machine::empty(), last, last, number);

@@ -4,7 +4,7 @@ use mathlib.Core.Path.{◌≡◌, refl, sym, ◌∙◌, ap}
 use mathlib.Core.List.{List, map}
 use mathlib.Core.Option.{Option, none, some}
 use mathlib.Core.Bool.{Bool, true, false, ◌&&◌, ◌||◌}
-use lib.ListN.{length, length-map}
+use lib.ListN.{length, take, length-map}
 use lib.Dec.{leb, ltb, eqb}
 use borrow.Author.Tests.{eqb-true, eq-eqb}
 use Rattle.rules.specs.declared.Chain.{Chain}
@@ -26,9 +26,10 @@ use Rattle.rules.proofs.Basics.Members.{all_at, all_of, below_at, below_of}
 use Rattle.rules.proofs.Soundness.Shapes.{clauses, from_clauses}
 use Rattle.tables.specs.Timeslices.{slice_of, place_of}
 use Rattle.neighbours.specs.Sides.{Sides, sentinel, room}
-use Rattle.neighbours.specs.Reading.{turns_read}
+use Rattle.neighbours.specs.Reading.{turns_read, laid_out}
+use Rattle.neighbours.proofs.Stepping.{take-laid}
 use Rattle.neighbours.specs.Forming.{leads_back, entries_free, forms_list}
-use Rattle.soundness.specs.Parts.{parts_of, stored_parts, sound_parts, thread_test, slot_test, number_test, chain_within}
+use Rattle.soundness.specs.Parts.{parts_of, owners_in, stored_parts, sound_parts, thread_test, slot_test, number_test, chain_within}
 use Rattle.soundness.specs.Parts.{place_test, turn_test, settled_by, settled_within}
 
 -- two tests that imply each other are the same
@@ -232,3 +233,12 @@ module _ (threads : List Thread) (ts : List Timeslice) (sides : Sides) (lives li
 
     pub whole : joined ≡ sound_parts threads ts sides lives live now
     whole = same_test joined (sound_parts threads ts sides lives live now) to_sound from_sound
+
+    -- as the code joins them, with the turn order laid out
+    pub whole_laid : (order : List ℕ) (r : Bool) → order ≡ laid_out sides.after live
+        → r ≡ (counted && leb live limit && list && numbers && places && distinct (take live order)
+        && distinct (owners_in ts (take live order)) && settled_within lives threads ts turns now)
+        → r ≡ sound_parts threads ts sides lives live now
+    whole_laid order r laid e =
+        let front : take live order ≡ turns = ap (take live) laid ∙ take-laid sides.after live in
+        rw front at e ∙ whole

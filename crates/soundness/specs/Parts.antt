@@ -8,8 +8,8 @@ use Rattle.rules.specs.declared.Chain.{Chain}
 use Rattle.rules.specs.declared.Running.{Running}
 use Rattle.rules.specs.declared.Running.TheVariants.{Nothing, Runs}
 use Rattle.rules.specs.Tests.{member}
-use Rattle.rules.specs.State.{State, limit, thread_at, hold_at, service_at, live_at, owner_at, slice_at, left_at, place_at, live_thread_count}
-use Rattle.rules.specs.State.{nothing_runs}
+use Rattle.rules.specs.State.{State, limit, thread_at, hold_at, service_at, live_at, owner_at, slice_at, left_at, place_at}
+use Rattle.rules.specs.State.{live_thread_count, nothing_runs}
 use Rattle.rules.specs.Walk.{no_links, walk_from, verdict}
 use Rattle.rules.specs.Release.{in_queue, topmost_at}
 use Rattle.rules.specs.Sound.{call_is_served, served_is_calling, link_good, idle_good, thread_free, slice_free, in_range, place_good}

@@ -8,25 +8,22 @@ ghost use Rattle.neighbours.specs.Forming.{entries_free};
 ghost use Rattle.soundness.specs.Parts.{thread_test, slot_test, number_test};
 
 use crate::calls::call_good;
-use crate::free_slots::{live_or_free, slice_free};
 use crate::idles::idle_good;
 use crate::links::link_good;
-use crate::logic::{both, either};
 use neighbours::forming::entries_free;
 use neighbours::reading::lists;
-use rules::{Place, Thread, Timeslice};
+use rules::{Thread, Timeslice};
 use tables::lookup::{thread_at, timeslice_at};
-use tables::order::in_set;
 
+// "Free slots hold one fixed value."
 pub fn thread_good(threads: [Thread; 128], n: u8) -> bool
     ensures { result ≡ thread_test threads n }
 {
     let t = thread_at(threads, n);
-    let hold = t.hold;
-    let calls = call_good(threads, n, t);
-    let linked = both(calls, link_good(threads, n, hold));
-    let idles = both(linked, idle_good(t));
-    both(idles, live_or_free(t))
+    call_good(threads, n, t)
+        && link_good(threads, n, t.hold)
+        && idle_good(t)
+        && (t.live || t == Thread::FREE)
 }
 
 // What stands where a timeslice is not listed.
@@ -38,19 +35,13 @@ pub(crate) fn neighbours_good<'a>(
 ) -> bool
     ensures { result ≡ entries_free (sides before.now after.now) (turns_read after.now live) t }
 {
-    let listed = lists(after, live, t);
-    either(listed, entries_free(before, after, t))
+    lists(after, live, t) || entries_free(before, after, t)
 }
 
 pub(crate) fn slot_good(timeslices: [Timeslice; 128], after: &[u8; 129], live: u8, t: u8) -> bool
     ensures { result ≡ slot_test timeslices (turns_read after.now live) t }
 {
-    let x = timeslice_at(timeslices, t);
-    let place = x.place;
-    let listed = lists(after, live, t);
-    let free = either(listed, slice_free(x));
-    let queued = either(listed, in_set(place, Place::Queue));
-    both(free, queued)
+    lists(after, live, t) || timeslice_at(timeslices, t) == Timeslice::FREE
 }
 
 pub(crate) fn number_good<'a>(
@@ -64,9 +55,9 @@ pub(crate) fn number_good<'a>(
     ensures { result ≡ number_test threads timeslices (sides before.now after.now)
         (turns_read after.now live) n }
 {
-    let neighbours = neighbours_good(before, after, live, n);
-    let thread = both(neighbours, thread_good(threads, n));
-    both(thread, slot_good(timeslices, after, live, n))
+    neighbours_good(before, after, live, n)
+        && thread_good(threads, n)
+        && slot_good(timeslices, after, live, n)
 }
 
 pub(crate) fn numbers_good<'a>(
@@ -79,13 +70,5 @@ pub(crate) fn numbers_good<'a>(
     ensures { result ≡ below limit (λ n. number_test threads timeslices (sides before.now after.now)
         (turns_read after.now live) n) }
 {
-    let mut n: u8 = 0;
-    while n < 128 {
-        if number_good(threads, timeslices, before, after, live, n) {
-            n += 1;
-        } else {
-            return false;
-        }
-    }
-    true
+    (0..128).all(|n| number_good(threads, timeslices, before, after, live, n))
 }

@@ -4,11 +4,10 @@ ghost use Rattle.rules.specs.Tests.{all};
 ghost use Rattle.neighbours.specs.Reading.{turns_read};
 ghost use Rattle.soundness.specs.Parts.{turn_test};
 
-use crate::logic::both;
 use crate::places::{place_good, spent_good};
 use crate::ranges::in_range;
 use neighbours::sides::neighbour;
-use rules::{Thread, Timeslice};
+use rules::{Slice, Thread, Timeslice};
 use tables::lookup::{thread_at, timeslice_at};
 use tables::numbers::entries;
 
@@ -23,15 +22,11 @@ pub(crate) fn turn_good(
     ensures { result ≡ turn_test threads timeslices (turns_read after.now live) live_threads t }
 {
     let x = timeslice_at(timeslices, t);
-    let owner = thread_at(threads, x.owner);
-    let owned = both(t < 128, owner.live);
-    let ranges = both(owned, in_range(x));
-    let placed = both(
-        ranges,
-        place_good(threads, timeslices, after, live_threads, live, t),
-    );
-    let place = x.place;
-    both(placed, spent_good(x.left, place))
+    t < 128
+        && thread_at(threads, x.owner).live
+        && in_range(Slice::from(x))
+        && place_good(threads, timeslices, after, live_threads, live, t)
+        && spent_good(x.left, x.place)
 }
 
 pub(crate) fn turns_good(
@@ -44,14 +39,10 @@ pub(crate) fn turns_good(
     ensures { result ≡ all (λ t. turn_test threads timeslices (turns_read after.now live) live_threads t)
         (turns_read after.now live) }
 {
-    let mut left = entries(live);
-    let mut at: u8 = 128;
-    while 0 < left {
-        let t = neighbour(after, at);
-        if turn_good(threads, timeslices, after, live_threads, live, t) {
-            at = t;
-            left -= 1;
-        } else {
+    let mut t: u8 = 128;
+    for _ in 0..entries(live) {
+        t = neighbour(after, t);
+        if !turn_good(threads, timeslices, after, live_threads, live, t) {
             return false;
         }
     }

@@ -8,20 +8,16 @@ ghost use Rattle.soundness.specs.Parts.{sound_parts};
 mod calls;
 pub mod each_number;
 mod each_turn;
-mod free_slots;
 mod idles;
 mod links;
-pub mod logic;
 mod owners;
 mod places;
-mod ranges;
+pub mod ranges;
 mod running;
 pub mod turn_order;
-mod walk_ends;
 
 use crate::each_number::numbers_good;
 use crate::each_turn::turns_good;
-use crate::logic::both;
 use crate::owners::owners_apart;
 use crate::running::is_settled;
 use crate::turn_order::listed_once;
@@ -31,6 +27,7 @@ use rules::{Running, Thread, Timeslice};
 use tables::lives::count_live;
 
 // A true L, neighbours that form a list of T timeslices, and the state shown is sound. The tables and sides are full by their types.
+#[tactic(auto, using(crate::proofs::Whole::whole_laid))]
 pub fn is_sound(
     threads: [Thread; 128],
     timeslices: [Timeslice; 128],
@@ -42,22 +39,13 @@ pub fn is_sound(
 ) -> bool
     ensures { result ≡ sound_parts threads timeslices (sides before after) live_threads live running }
 {
-    let counted = live_threads == count_live(threads);
-    let counts = both(counted, live <= 128);
-    let list = both(counts, leads_back(&before, &after, live));
-    let numbers = both(
-        list,
-        numbers_good(threads, timeslices, &before, &after, live),
-    );
-    let turns = both(
-        numbers,
-        turns_good(threads, timeslices, &after, live_threads, live),
-    );
     let order = laid_out(&after, live);
-    let once = both(turns, listed_once(order, live));
-    let apart = both(once, owners_apart(timeslices, order, live));
-    both(
-        apart,
-        is_settled(threads, timeslices, &after, live_threads, live, running),
-    )
+    live_threads == count_live(threads)
+        && live <= 128
+        && leads_back(&before, &after, live)
+        && numbers_good(threads, timeslices, &before, &after, live)
+        && turns_good(threads, timeslices, &after, live_threads, live)
+        && listed_once(order, live)
+        && owners_apart(timeslices, order, live)
+        && is_settled(threads, timeslices, &after, live_threads, live, running)
 }

@@ -9,17 +9,15 @@ ghost use Rattle.neighbours.specs.Reading.{turns_read};
 ghost use Rattle.soundness.specs.Parts.{place_test};
 ghost use Rattle.tables.specs.Timeslices.{slice_of, place_of};
 
-use crate::logic::{agree, both};
-use crate::walk_ends::{is_stalls, waits_at};
 use neighbours::reading::lists;
 use neighbours::standing::stands_above;
 use rules::{Place, Thread, Timeslice};
-use tables::ends::verdict_of;
+use tables::ends::{Verdict, verdict_of};
 use tables::lookup::timeslice_at;
-use tables::order::in_set;
 use tables::walk::walk;
 
 // "Behind: the other is in Queue and stands above."
+#[tactic(auto, unfolding(rules::specs::Order::stands_above))]
 pub(crate) fn behind_good(
     timeslices: [Timeslice; 128],
     after: &[u8; 129],
@@ -31,15 +29,13 @@ pub(crate) fn behind_good(
         && stands_above (map slice_of timeslices) (turns_read after.now live) q t) }
 {
     let x = timeslice_at(timeslices, q);
-    let place = x.place;
-    let listed = lists(after, live, q);
-    let queued = in_set(place, Place::Queue);
-    let listed_queued = both(listed, queued);
     let y = timeslice_at(timeslices, t);
-    let above = stands_above(after, live, q, x.priority, t, y.priority);
-    both(listed_queued, above)
+    lists(after, live, q)
+        && x.place == Place::Queue
+        && stands_above(after, live, q, x.priority, t, y.priority)
 }
 
+// "On: the walk ends there and does not let it run. Stalled: the walk loops."
 pub(crate) fn place_good(
     threads: [Thread; 128],
     timeslices: [Timeslice; 128],
@@ -51,22 +47,17 @@ pub(crate) fn place_good(
     ensures { result ≡ place_test threads timeslices (turns_read after.now live) live_threads t }
 {
     let x = timeslice_at(timeslices, t);
-    let owner = x.owner;
-    let place = x.place;
-    match place {
-        Place::Queue => true,
+    match x.place {
+        Place::Queue | Place::Spent => true,
         Place::Behind(q) => behind_good(timeslices, after, live, q, t),
         Place::On(n) => {
-            let chain = walk(threads, live_threads, owner);
-            let said = verdict_of(threads, chain);
-            waits_at(n, chain, said)
+            let chain = walk(threads, live_threads, x.owner);
+            verdict_of(threads, chain) == Verdict::Waits && chain.end == n
         }
         Place::Stalled => {
-            let chain = walk(threads, live_threads, owner);
-            let said = verdict_of(threads, chain);
-            is_stalls(said)
+            let chain = walk(threads, live_threads, x.owner);
+            verdict_of(threads, chain) == Verdict::Stalls
         }
-        Place::Spent => true,
     }
 }
 
@@ -74,6 +65,5 @@ pub(crate) fn place_good(
 pub(crate) fn spent_good(left: u16, place: Place) -> bool
     ensures { result ≡ spent_good left place }
 {
-    let spent = in_set(place, Place::Spent);
-    agree(spent, left == 0)
+    (place == Place::Spent) == (left == 0)
 }

@@ -8,12 +8,8 @@ use tables::order::listed_from;
 pub fn listed_once(order: [u8; 128], live: u8) -> bool
     ensures { result ≡ distinct (take live order) }
 {
-    let n = entries(live);
-    let mut i: usize = 0;
-    while i < n {
-        let t = order[i];
-        i += 1;
-        if listed_from(order, live, i, t) {
+    for i in 0..entries(live) {
+        if listed_from(order, live, i + 1, order[i]) {
             return false;
         }
     }

@@ -1,37 +1,22 @@
 // Standard input, read whole.
-ghost use Rattle.streams.specs.Counts.{Filled};
+ghost use Rattle.streams.specs.Counts.{Filled, Reads};
 
-use std::io::{Read, Stdin};
+use super::ReadFailed;
+use std::io::Read;
 
-// Whether reading failed, and how many bytes were read.
-#[derive(Clone, Copy)]
-pub struct Input {
-    pub failed: bool,
-    pub bytes: usize,
-}
-
-// Reads standard input until it ends or the buffer is full.
-pub fn fill(mut from: Stdin, buffer: &mut [u8]) -> Input
-    ensures { Filled result buffer.old buffer.new }
+// Reads until the input ends or the buffer is full, and answers how many bytes. std's `read_exact` does not say how many there were before
+// the end, and goes on after an interruption.
+pub fn fill<R: Read>(from: &mut R, buffer: &mut [u8]) -> Result<usize, ReadFailed>
+    ensures counts { Filled result buffer.old buffer.new }
+    ensures bytes { Reads result (R.remaining from.old) buffer.new }
 {
     let mut at: usize = 0;
     while at < buffer.len() {
-        let Ok(n) = from.read(&mut buffer[at..]) else {
-            return Input {
-                failed: true,
-                bytes: 0,
-            };
-        };
-        if n == 0 {
-            return Input {
-                failed: false,
-                bytes: at,
-            };
+        match from.read(&mut buffer[at..]) {
+            Ok(0) => return Ok(at),
+            Ok(n) => at += n,
+            Err(_) => return Err(ReadFailed),
         }
-        at += n;
     }
-    Input {
-        failed: false,
-        bytes: at,
-    }
+    Ok(at)
 }

@@ -1,46 +1,23 @@
 // Standard output and standard error, written whole.
-ghost use Rattle.streams.specs.Counts.{Sent};
+ghost use Rattle.std.specs.Io.KnownBytes.{Appends};
+ghost use Rattle.std.specs.Prelude.{take};
+ghost use Rattle.streams.specs.Counts.{Sent, written_of};
 
-use std::io::{Stderr, Stdout, Write};
+use super::WriteFailed;
+use std::io::Write;
 
-// Whether writing failed, and how many bytes were written.
-#[derive(Clone, Copy)]
-pub struct Output {
-    pub failed: bool,
-    pub bytes: usize,
-}
-
-// Writes until all is written or a write fails or takes nothing.
-fn write_whole<W: Write + Drop>(mut to: W, text: &[u8]) -> Output
-    ensures { Sent result text.now }
+// Writes until all is written or a write fails or takes nothing, and answers how many bytes. std's `write_all` does not say how many there
+// were before a failure, and goes on after an interruption.
+pub fn send<W: Write>(to: &mut W, text: &[u8]) -> Result<usize, WriteFailed>
+    ensures counts { Sent result text.now }
+    ensures bytes { Appends (W.contents to.old) (W.contents to.new) (take (written_of result) text.now) }
 {
     let mut at: usize = 0;
     while at < text.len() {
-        let n = to.write(&text[at..]).unwrap_or(0);
-        if n == 0 {
-            return Output {
-                failed: true,
-                bytes: at,
-            };
+        match to.write(&text[at..]) {
+            Ok(0) | Err(_) => return Err(WriteFailed { written: at }),
+            Ok(n) => at += n,
         }
-        at += n;
     }
-    Output {
-        failed: false,
-        bytes: at,
-    }
-}
-
-// Writes to standard output.
-pub fn send(to: Stdout, text: &[u8]) -> Output
-    ensures { Sent result text.now }
-{
-    write_whole(to, text)
-}
-
-// Says what went wrong, on standard error.
-pub fn complain(to: Stderr, sentence: &[u8]) -> Output
-    ensures { Sent result sentence.now }
-{
-    write_whole(to, sentence)
+    Ok(at)
 }

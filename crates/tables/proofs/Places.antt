@@ -6,7 +6,8 @@ use Rattle.rules.specs.declared.Place.{Place}
 use Rattle.rules.specs.declared.Place.TheVariants.{Queue, Behind, On, Stalled, Spent}
 use Rattle.tables.specs.Sets.{set_of, kind_of, number_of}
 
-pub same_place : (place set : Place) → set_of set place ≡ cond (eqb (kind_of place) (kind_of set)) (eqb (number_of place) (number_of set)) false
+pub same_place : (place set : Place)
+    → set_of set place ≡ cond (eqb (kind_of place) (kind_of set)) (eqb (number_of place) (number_of set)) false
 same_place Queue Queue = refl
 same_place Queue (Behind u) = refl
 same_place Queue (On m) = refl

@@ -1,109 +1,98 @@
--- Leaving the turn order, or going to its back: the timeslice is found, and the later ones move up.
-use Prim.Native.Nat.{ℕ, suc, ◌+◌, ◌≤◌, ◌<◌}
+-- Leaving the turn order, or going to its back: the first entry that holds the timeslice is found, and the later ones move up by one.
+use Prim.Native.Nat.{ℕ, suc, ◌+◌, ◌-◌, ◌≤◌, ◌<◌}
 use mathlib.Core.Path.{◌≡◌, refl, sym, ◌∙◌, ap}
-use mathlib.Core.List.{List, [], ◌∷◌, ◌++◌, append-nil}
+use mathlib.Core.List.{List, [], ◌∷◌, ◌++◌}
 use mathlib.Core.Bool.{true, false}
 use native.Mathlib.Omega.{arith}
 use native.Mathlib.Numerals.{add-one}
-use lib.ListN.{length, get_or, set, take, drop, length-set}
-use lib.Seq.{take-suc, append_snoc, take-suc-set, take-set-lt, drop-set-lt, get_or-set_other}
+use lib.ListN.{length, get_or, set, take, drop, length-set, length-drop, length-take}
+use lib.Seq.{take-paste, drop-paste, get_or-set_other, get_or-drop}
 use lib.Dec.{eqb}
-use borrow.Author.Tests.{eq-eqb, ne_eqb}
+use borrow.Author.Tests.{lt-ltb, le-ltb}
+use Rattle.std.specs.Prelude.{Option, Some, None}
+use Rattle.std.specs.List.{position, position_or_len, copy_within}
+use Rattle.std.proofs.lemmas.List.{take-take, take_more_set}
 use Rattle.rules.specs.Tests.{member}
 use Rattle.rules.specs.Timeslices.{without, last}
+use Rattle.rules.proofs.Basics.Views.{Same, equal, different, same}
 use Rattle.tables.specs.Turning.{entries_of, Position, listed, absent, Shifted, TakenOut}
-use Rattle.tables.proofs.Lookups.{turn, turns_out, take-entries}
+use Rattle.tables.proofs.Lookups.{take-entries, part, eqb_swap}
 
-module _ (t live : ℕ) (order : List ℕ) (full : length order ≡ 128) where
-  -- entry i is reached, and t stands at no earlier one
-  pub record Seeking (n i : ℕ) : Type 0 where
-    pub end : n ≡ entries_of live
-    pub inside : i ≤ n
-    pub others : without t (take live order) ≡ take i order ++ without t (drop i (take live order))
-    pub rest : member t (drop i (take live order)) ≡ member t (take live order)
+module _ (t : ℕ) where
+  -- entry i of the list is the first that holds t, or i is past the list, which does not hold it
+  pub data First (l : List ℕ) (i : ℕ) : Type 0 where
+    stands : i < length l → member t l ≡ true → without t l ≡ take i l ++ drop (suc i) l → First l i
+    nowhere : i ≡ length l → member t l ≡ false → First l i
 
-  pub seek : (n : ℕ) → n ≡ entries_of live → Seeking n 0
-  seek n e = record { end = e; inside = omega arith; others = refl; rest = refl }
+  abbrev at : List ℕ → ℕ
+  at l = position_or_len (λ u. eqb u t) l
 
-  pub pass : (n i : ℕ) → Seeking n i → i < n → (get_or order i 0 ≡ t → ⊥) → Seeking n (i + 1)
-  unfolding without member
-  pass n i s short other =
-      let at = turn order live i full (omega (arith, s.end)) in
-      let rest = drop (suc i) (take live order) in
-      let no : eqb (get_or order i 0) t ≡ false = ne_eqb (get_or order i 0) t other in
-      let on : eqb t (get_or order i 0) ≡ false = ne_eqb t (get_or order i 0) (λ e. other (sym e)) in
-      let one : take i order ++ (get_or order i 0 ∷ without t rest) ≡ take (suc i) order ++ without t rest =
-      sym (append_snoc (take i order) (get_or order i 0) (without t rest))
-      ∙ ap (λ (l : List ℕ). l ++ without t rest) (sym (take-suc order i 0 (omega (arith, s.end)))) in
-      record {
-        end = s.end;
-        inside = omega arith;
-        others = rw add-one (rw (at, no) at s.others ∙ one);
-        rest = rw add-one (rw (at, on) at s.rest);
-      }
+  behind : (x : ℕ) (l : List ℕ) (i : ℕ) → eqb x t ≡ false → First l i → First (x ∷ l) (1 + i)
+  unfolding member without
+  behind x l i off (stands short m others) =
+      let one : 1 + i ≡ suc i = omega arith in
+      rw one (stands (omega arith) (rw (eqb_swap t x, off) m) (rw off (ap (λ (r : List ℕ). x ∷ r) others)))
+  behind x l i off (nowhere end m) = nowhere (omega arith) (rw (eqb_swap t x, off) m)
 
-  pub find : (n i : ℕ) → Seeking n i → i < n → get_or order i 0 ≡ t → Position t live order i
-  unfolding without member
-  find n i s short this =
-      let at = turn order live i full (omega (arith, s.end)) in
-      let on : eqb t (get_or order i 0) ≡ true = eq-eqb t (get_or order i 0) (sym this) in
-      listed (sym (rw (at, on) at s.rest)) (omega (arith, s.end)) (rw (at, eq-eqb (get_or order i 0) t this) at s.others)
+  pub first : (l : List ℕ) → First l (at l)
+  unfolding member without
+  first [] = nowhere refl refl
+  first (x ∷ l) = go (same x t) (first l)
+    where
+      go : Same x t → First l (at l) → First (x ∷ l) (at (x ∷ l))
+      go (equal e on) later = rw on (stands (omega arith) (rw (eqb_swap t x, on) refl) (rw on refl))
+      go (different e off) later = rw off (behind x l (at l) off later)
 
-  pub lost : (n i : ℕ) → Seeking n i → n ≤ i → Position t live order i
-  unfolding member
-  lost n i s past =
-      let out = turns_out order live i full (omega (arith, s.end)) in
-      absent (sym (rw out at s.rest)) (omega (arith, s.end))
+-- what `position` finds
+abbrev pub Found : ℕ → ℕ → List ℕ → Option ℕ → Type 0
+Found t live order (Some i) = (i < entries_of live) × Position t live order i
+Found t live order None = Position t live order (entries_of live)
 
-module _ (z live : ℕ) (first : List ℕ) (from : ℕ) where
-  -- entry i is to be filled
-  pub record Shifting (n : ℕ) (order : List ℕ) (i : ℕ) : Type 0 where
-    pub end : n ≡ entries_of live
-    pub inside : i < n
-    pub full : length order ≡ 128
-    pub size : length order ≡ length first
-    pub turns : take i order ++ drop (suc i) (take live order) ≡ take from first ++ drop (suc from) (take live first)
-    pub free : (k : ℕ) → n ≤ k → get_or order k 0 ≡ get_or first k 0
+pub found : (t live : ℕ) (order : List ℕ) → length order ≡ 128
+    → (r : Option ℕ) → r ≡ position (λ u. eqb u t) (take (entries_of live) order) → Found t live order r
+found t live order full r is = rw is (go (first t listing))
+  where
+    listing : List ℕ
+    listing = take (entries_of live) order
 
-  pub shift : (n : ℕ) → n ≡ entries_of live → from < entries_of live → length first ≡ 128 → Shifting n first from
-  shift n e i full = record { end = e; inside = omega arith; full = full; size = refl; turns = refl; free = λ k h. refl }
+    go : First t listing (at t listing) → Found t live order (position (λ u. eqb u t) listing)
+    go (stands short m others) =
+        let long = length-take (entries_of live) order in
+        let whole = take-entries order live full in
+        let i = at t listing in
+        let before : take i listing ≡ take i order = take-take i (entries_of live) order (omega arith) in
+        let left_out = others ∙ ap (λ (l : List ℕ). l ++ drop (suc i) listing) before in
+        rw (lt-ltb _ _ short) (omega arith, listed (rw whole m) (omega arith) (rw whole left_out))
+    go (nowhere end m) =
+        let whole = take-entries order live full in
+        rw (le-ltb (at t listing) (length listing) (omega arith)) (absent (rw whole m) (omega arith))
 
-  pub up : (n : ℕ) (order : List ℕ) (i : ℕ) → Shifting n order i → i + 1 < n → Shifting n (set order i (get_or order (i + 1) 0)) (i + 1)
-  up n order i s short =
-      let u = get_or order (suc i) 0 in
-      let rest = drop (suc (suc i)) (take live order) in
-      let at = turn order live (suc i) s.full (omega (arith, s.end)) in
-      let in-range : i < length order = omega (arith, s.full, s.end) in
-      let tail : drop (suc (suc i)) (take live (set order i u)) ≡ rest =
-      ap (drop (suc (suc i))) (take-set-lt live order i u (omega (arith, s.end)))
-      ∙ drop-set-lt (suc (suc i)) (take live order) i u (omega arith) in
-      let moved : take (suc i) (set order i u) ++ drop (suc (suc i)) (take live (set order i u)) ≡ take i order ++ (u ∷ rest) =
-      rw (take-suc-set order i u in-range, tail) (append_snoc (take i order) u rest) in
-      record {
-        end = s.end;
-        inside = omega arith;
-        full = length-set order i (get_or order (i + 1) 0) ∙ s.full;
-        size = length-set order i (get_or order (i + 1) 0) ∙ s.size;
-        turns = rw (add-one i) (moved ∙ ap (λ (l : List ℕ). take i order ++ l) (sym at) ∙ s.turns);
-        free = λ k h. get_or-set_other order i k (get_or order (i + 1) 0) 0 (λ e. absurd (omega arith)) ∙ s.free k h;
-      }
-
-  -- the last live entry: the turn order is what stands before it, then z
-  pub close : (n : ℕ) (order : List ℕ) (i : ℕ) → Shifting n order i → n ≤ i + 1 → Shifted z live first from (set order i z)
-  close n order i s past =
-      let in-range : i < length order = omega (arith, s.full, s.end) in
-      let none : drop (suc i) (take live order) ≡ [] = turns_out order live (suc i) s.full (omega (arith, s.end)) in
-      let all : take i order ≡ take from first ++ drop (suc from) (take live first) =
-      sym (append-nil (take i order)) ∙ ap (λ (l : List ℕ). take i order ++ l) (sym none) ∙ s.turns in
-      let full : length (set order i z) ≡ 128 = length-set order i z ∙ s.full in
-      let all_but_one : entries_of live ≡ suc i = omega (arith, s.end, s.inside) in
-      let last_entry : take live (set order i z) ≡ take (suc i) (set order i z) =
-      take-entries (set order i z) live full ∙ ap (λ (k : ℕ). take k (set order i z)) all_but_one in
-      record {
-        size = length-set order i z ∙ s.size;
-        turns = last_entry ∙ take-suc-set order i z in-range ∙ ap (λ (l : List ℕ). l ++ (z ∷ [])) all;
-        free = λ k h. get_or-set_other order i k z 0 (λ q. absurd (omega (arith, s.end))) ∙ s.free k (omega (arith, s.end));
-      }
+-- the later entries are copied one place forward, and z is put behind them
+pub shifts : (z live : ℕ) (order : List ℕ) (i n : ℕ) (moved : List ℕ) → length order ≡ 128 → n ≡ entries_of live → i < n
+    → moved ≡ copy_within order (i + 1) n i → length moved ≡ length order → Shifted z live order i (set moved (n - 1) z)
+shifts z live order i n moved full e short is size =
+    let m = n - (i + 1) in
+    let later = drop (i + 1) order in
+    let fits : m ≤ length later = omega (arith, length-drop (i + 1) order) in
+    let end : n - 1 ≡ i + m = omega arith in
+    let head : take (n - 1) moved ≡ take i order ++ take m later = rw (is, end) (take-paste order i later m (omega arith) fits) in
+    let tail : drop (n - 1) moved ≡ drop (n - 1) order = rw (is, end) (drop-paste order i later m (omega arith) fits) in
+    let rest : take m later ≡ drop (suc i) (take live order) = rw (← add-one i) (part order live n (i + 1) full e (omega arith)) in
+    let after = set moved (n - 1) z in
+    let whole : take live after ≡ take (n - 1 + 1) after =
+    take-entries after live (length-set moved (n - 1) z ∙ size ∙ full) ∙ ap (λ (k : ℕ). take k after) (omega arith) in
+    record {
+      size = length-set moved (n - 1) z ∙ size;
+      turns =
+          whole ∙ take_more_set moved (n - 1) z (omega arith)
+          ∙ ap (λ (l : List ℕ). l ++ (z ∷ [])) (head ∙ ap (λ (l : List ℕ). take i order ++ l) rest);
+      free = λ k h.
+          let at : n - 1 + (k - (n - 1)) ≡ k = omega arith in
+          get_or-set_other moved (n - 1) k z 0 (λ q. absurd (omega arith)) ∙ ap (λ (j : ℕ). get_or moved j 0) (sym at)
+          ∙ sym (get_or-drop (n - 1) moved (k - (n - 1)) 0) ∙ ap (λ (l : List ℕ). get_or l (k - (n - 1)) 0) tail
+          ∙ get_or-drop (n - 1) order (k - (n - 1)) 0
+          ∙ ap (λ (j : ℕ). get_or order j 0) at;
+    }
 
 -- a listed timeslice is taken out
 pub taken : (t z live : ℕ) (order : List ℕ) (i : ℕ) (after : List ℕ) → i < entries_of live → Position t live order i

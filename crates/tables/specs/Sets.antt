@@ -1,11 +1,10 @@
 -- The sets of timeslices that are released or chosen from, named by a place, and the answer of a search.
-use Rattle.std.specs.Prelude.{ℕ, Bool}
+use Rattle.std.specs.Prelude.{ℕ, Bool, Some, None}
+use Rattle.std.specs.Prelude as std
 use Rattle.std.proofs.Math.Option.{Option, none, some}
 use Rattle.rules.specs.declared.Place.{Place}
 use Rattle.rules.specs.declared.Place.TheVariants.{Queue, Behind, On, Stalled, Spent}
 use Rattle.rules.specs.Release.{in_queue, behind, on_thread, stalled, is_spent}
-use Rattle.tables.specs.declared.order.Sought.{Sought}
-use Rattle.tables.specs.declared.order.Sought.TheVariants.{Nothing, At}
 
 -- the timeslices at this place
 abbrev pub set_of : Place → Place → Bool
@@ -15,10 +14,10 @@ set_of (On n) = on_thread n
 set_of Stalled = stalled
 set_of Spent = is_spent
 
--- what a search found
-abbrev pub sought_of : Sought → Option ℕ
-sought_of Nothing = none
-sought_of (At t) = some t
+-- what a search found, as the definitions say it
+abbrev pub sought_of : std.Option ℕ → Option ℕ
+sought_of None = none
+sought_of (Some t) = some t
 
 -- a place as two numbers
 abbrev pub kind_of : Place → ℕ

@@ -5,10 +5,9 @@ ghost use Rattle.rules.specs.Events.{end_blocked};
 ghost use Rattle.tables.specs.Verdicts.{verdict_of};
 
 use crate::lookup::thread_at;
-use crate::records::is_blocked;
 use rules::{Chain, Hold, Thread};
 
-#[derive(Clone, Copy)]
+#[derive(Clone, Copy, Debug, PartialEq, Eq)]
 pub enum Verdict {
     Runs,
     Retries,
@@ -21,15 +20,8 @@ pub fn at_end(hold: Hold, links: u8) -> Verdict
 {
     match hold {
         Hold::Ready => Verdict::Runs,
-        Hold::Idle => {
-            if 0 < links {
-                return Verdict::Retries;
-            }
-            Verdict::Waits
-        }
-        Hold::Blocked => Verdict::Waits,
-        Hold::Calling(_) => Verdict::Waits,
-        Hold::Helping(_) => Verdict::Waits,
+        Hold::Idle if 0 < links => Verdict::Retries,
+        _ => Verdict::Waits,
     }
 }
 
@@ -37,24 +29,22 @@ pub fn judged(looped: bool, hold: Hold, links: u8) -> Verdict
     ensures { verdict_of result ≡ cond looped stalls (at_end hold links) }
 {
     if looped {
-        return Verdict::Stalls;
+        Verdict::Stalls
+    } else {
+        at_end(hold, links)
     }
-    at_end(hold, links)
 }
 
 pub fn verdict_of(threads: [Thread; 128], chain: Chain) -> Verdict
     ensures { verdict_of result ≡ verdict threads chain }
 {
     let last = thread_at(threads, chain.end);
-    let hold = last.hold;
-    judged(chain.looped, hold, chain.links)
+    judged(chain.looped, last.hold, chain.links)
 }
 
 // The end of a chain is Blocked.
 pub fn end_blocked(threads: [Thread; 128], chain: Chain) -> bool
     ensures { result ≡ end_blocked chain threads }
 {
-    let last = thread_at(threads, chain.end);
-    let hold = last.hold;
-    is_blocked(hold)
+    thread_at(threads, chain.end).hold == Hold::Blocked
 }

@@ -1,34 +1,26 @@
 // Document 01, "Events" and "Release and choice", and document 02, [3]: what they do to the threads.
 ghost use Rattle.std.specs.Prelude.{◌≡◌};
-ghost use Rattle.rules.specs.Threads.{set_hold, set_service, donate, replied as replied_of, free_caller, aborted as aborted_of, orphan_server};
-ghost use Rattle.rules.specs.Threads.{cut_from, links_cut, removed as removed_of, starts_as, created as created_of};
+ghost use Rattle.rules.specs.Threads.{set_hold, set_service, donate, replied as replied_of, free_caller, aborted as aborted_of};
+ghost use Rattle.rules.specs.Threads.{orphan_server, cut_from, links_cut, removed as removed_of, starts_as, created as created_of};
 
-use crate::numbers::index;
+use crate::lookup::{entry_or, with_entry};
 use crate::records::is_linked_to;
 use rules::{Hold, Role, Service, Thread};
 
-pub fn with_hold(mut threads: [Thread; 128], n: u8, hold: Hold) -> [Thread; 128]
+#[tactic(auto, unfolding(rules::specs::Threads::set_hold))]
+pub fn with_hold(threads: [Thread; 128], n: u8, hold: Hold) -> [Thread; 128]
     ensures { result ≡ set_hold n hold threads }
 {
-    let k = index(n);
-    if k < 128 {
-        let a = threads[k];
-        let b = Thread { hold, ..a };
-        threads[k] = b;
-    }
-    threads
+    let thread = entry_or(&threads, usize::from(n), Thread::FREE);
+    with_entry(threads, n, Thread { hold, ..thread })
 }
 
-pub fn with_service(mut threads: [Thread; 128], n: u8, service: Service) -> [Thread; 128]
+#[tactic(auto, unfolding(rules::specs::Threads::set_service))]
+pub fn with_service(threads: [Thread; 128], n: u8, service: Service) -> [Thread; 128]
     ensures { result ≡ set_service n service threads }
 {
-    let k = index(n);
-    if k < 128 {
-        let a = threads[k];
-        let b = Thread { service, ..a };
-        threads[k] = b;
-    }
-    threads
+    let thread = entry_or(&threads, usize::from(n), Thread::FREE);
+    with_entry(threads, n, Thread { service, ..thread })
 }
 
 // A client starts Ready, a server Idle.
@@ -41,24 +33,21 @@ pub(crate) fn starts_as(role: Role) -> Hold
     }
 }
 
-pub fn created(mut threads: [Thread; 128], n: u8, role: Role) -> [Thread; 128]
+#[tactic(auto, unfolding(rules::specs::Threads::created))]
+pub fn created(threads: [Thread; 128], n: u8, role: Role) -> [Thread; 128]
     ensures { result ≡ created_of n role threads }
 {
-    let k = index(n);
-    if k < 128 {
-        let hold = starts_as(role);
-        let new = Thread {
-            live: true,
-            role,
-            hold,
-            service: Service::Nobody,
-        };
-        threads[k] = new;
-    }
-    threads
+    let new = Thread {
+        live: true,
+        role,
+        hold: starts_as(role),
+        service: Service::Nobody,
+    };
+    with_entry(threads, n, new)
 }
 
 // The caller is Calling, the server Ready and serving it.
+#[tactic(auto, unfolding(rules::specs::Threads::donate))]
 pub fn donated(threads: [Thread; 128], caller: u8, server: u8) -> [Thread; 128]
     ensures { result ≡ donate caller server threads }
 {
@@ -72,22 +61,17 @@ pub fn freed(threads: [Thread; 128], service: Service) -> [Thread; 128]
     ensures { result ≡ free_caller service threads }
 {
     match service {
-        Service::Nobody => threads,
         Service::Serving(caller) => with_hold(threads, caller, Hold::Ready),
-        Service::Orphan => threads,
+        Service::Nobody | Service::Orphan => threads,
     }
 }
 
 // The server is Idle and serves nobody.
+#[tactic(auto, unfolding(rules::specs::Threads::replied))]
 pub fn replied(threads: [Thread; 128], server: u8) -> [Thread; 128]
     ensures { result ≡ replied_of server threads }
 {
-    let k = index(server);
-    let mut service = Service::Nobody;
-    if k < 128 {
-        let t = threads[k];
-        service = t.service;
-    }
+    let service = entry_or(&threads, usize::from(server), Thread::FREE).service;
     let ready = freed(threads, service);
     let idle = with_hold(ready, server, Hold::Idle);
     with_service(idle, server, Service::Nobody)
@@ -98,23 +82,16 @@ pub fn orphaned(threads: [Thread; 128], hold: Hold) -> [Thread; 128]
     ensures { result ≡ orphan_server hold threads }
 {
     match hold {
-        Hold::Ready => threads,
-        Hold::Idle => threads,
-        Hold::Blocked => threads,
         Hold::Calling(server) => with_service(threads, server, Service::Orphan),
-        Hold::Helping(_) => threads,
+        Hold::Ready | Hold::Idle | Hold::Blocked | Hold::Helping(_) => threads,
     }
 }
 
+#[tactic(auto, unfolding(rules::specs::Threads::aborted))]
 pub fn aborted(threads: [Thread; 128], n: u8) -> [Thread; 128]
     ensures { result ≡ aborted_of n threads }
 {
-    let k = index(n);
-    let mut hold = Hold::Ready;
-    if k < 128 {
-        let t = threads[k];
-        hold = t.hold;
-    }
+    let hold = entry_or(&threads, usize::from(n), Thread::FREE).hold;
     let left = orphaned(threads, hold);
     with_hold(left, n, Hold::Ready)
 }
@@ -123,43 +100,30 @@ pub fn aborted(threads: [Thread; 128], n: u8) -> [Thread; 128]
 pub fn cut_from(n: u8, thread: Thread) -> Thread
     ensures { result ≡ cut_from n thread }
 {
-    let hold = thread.hold;
-    if is_linked_to(n, hold) {
-        return Thread {
+    if is_linked_to(n, thread.hold) {
+        Thread {
             hold: Hold::Ready,
             ..thread
-        };
+        }
+    } else {
+        thread
     }
-    thread
 }
 
-pub fn links_cut(mut threads: [Thread; 128], n: u8) -> [Thread; 128]
+#[tactic(auto, unfolding(rules::specs::Threads::links_cut))]
+pub fn links_cut(threads: [Thread; 128], n: u8) -> [Thread; 128]
     ensures { result ≡ links_cut n threads }
 {
-    let mut k: usize = 0;
-    while k < 128 {
-        let a = threads[k];
-        let b = cut_from(n, a);
-        threads[k] = b;
-        k += 1;
-    }
-    threads
+    threads.map(|thread| cut_from(n, thread))
 }
 
 // All links into the thread are cut, the server that it was Calling is an orphan, and its record is free.
+#[tactic(auto, unfolding(rules::specs::Threads::removed))]
 pub fn removed(threads: [Thread; 128], n: u8) -> [Thread; 128]
     ensures { result ≡ removed_of n threads }
 {
-    let k = index(n);
-    let mut hold = Hold::Ready;
-    if k < 128 {
-        let t = threads[k];
-        hold = t.hold;
-    }
+    let hold = entry_or(&threads, usize::from(n), Thread::FREE).hold;
     let cut = links_cut(threads, n);
-    let mut left = orphaned(cut, hold);
-    if k < 128 {
-        left[k] = Thread::FREE;
-    }
-    left
+    let left = orphaned(cut, hold);
+    with_entry(left, n, Thread::FREE)
 }

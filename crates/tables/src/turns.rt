@@ -1,23 +1,15 @@
-// Document 01, "Events", and document 02, [3]: what they do to a turn order that is an array, as the plain engine has it.
-ghost use Rattle.std.specs.Prelude.{◌<◌};
-ghost use Rattle.tables.specs.Turning.{entries_of, Position, Shifted, TakenOut, Turned, StruckOut};
+// Document 01, "Events", and document 02, [3]: what they do to a turn order that is an array, as the plain engine has it. The array and the
+// number of its live entries are two parameters: each function is total for any two, so that a struct of both would have nothing to keep.
+ghost use Rattle.std.specs.Prelude.{◌≡◌, ◌<◌, eqb, position, take};
+ghost use Rattle.tables.specs.Turning.{entries_of, Shifted, TakenOut, Turned, StruckOut};
 
 use crate::numbers::entries;
 
-// Where a timeslice stands first; the number of live entries where it is not listed.
-pub(crate) fn position(order: [u8; 128], live: u8, t: u8) -> usize
-    ensures { Position t live order result }
+// Where a timeslice stands first, if it is listed.
+pub(crate) fn position(order: [u8; 128], live: u8, t: u8) -> Option<usize>
+    ensures { result ≡ position (λ u. eqb u t) (take (entries_of live) order) }
 {
-    let n = entries(live);
-    let mut i: usize = 0;
-    while i < n {
-        let u = order[i];
-        if u == t {
-            return i;
-        }
-        i += 1;
-    }
-    i
+    order[..entries(live)].iter().position(|u| *u == t)
 }
 
 // The entries after this one move up, and `last` fills the last live one.
@@ -26,13 +18,8 @@ pub(crate) fn shifted(mut order: [u8; 128], live: u8, from: usize, last: u8) -> 
     ensures { Shifted last live order from result }
 {
     let n = entries(live);
-    let mut i = from;
-    while i + 1 < n {
-        let u = order[i + 1];
-        order[i] = u;
-        i += 1;
-    }
-    order[i] = last;
+    order.copy_within(from + 1..n, from);
+    order[n - 1] = last;
     order
 }
 
@@ -40,12 +27,10 @@ pub(crate) fn shifted(mut order: [u8; 128], live: u8, from: usize, last: u8) -> 
 pub(crate) fn taken_out(order: [u8; 128], live: u8, t: u8, last: u8) -> [u8; 128]
     ensures { TakenOut t last live order result }
 {
-    let from = position(order, live, t);
-    let n = entries(live);
-    if from < n {
-        return shifted(order, live, from, last);
+    match position(order, live, t) {
+        Some(from) => shifted(order, live, from, last),
+        None => order,
     }
-    order
 }
 
 // A timeslice goes to the back of the turn order.

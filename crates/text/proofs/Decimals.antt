@@ -39,10 +39,12 @@ pub one_put : {before after : List ℕ} {at to b : ℕ} (n : ℕ) → n < 10 →
     → Put before after at to (decimal n)
 one_put n small is p = reading (ap (λ (d : ℕ). d ∷ []) is ∙ sym (one_digit n small)) p
 
-pub next_put : {before between after : List ℕ} {at to end b : ℕ} (n : ℕ) → 10 ≤ n → Put before between at to (decimal (n / 10))
-    → b ≡ digit (n % 10) → Put between after to end (b ∷ []) → Put before after at end (decimal n)
-next_put n large front is p =
-    reading (ap (λ (d : ℕ). decimal (n / 10) ++ (d ∷ [])) is ∙ sym (last_digit n large)) (front then p)
+-- two digits put
+pub two_put : {before after : List ℕ} {at to : ℕ} (n : ℕ) → 10 ≤ n → n < 100
+    → Put before after at to (digit (n / 10 % 10) ∷ digit (n % 10) ∷ []) → Put before after at to (decimal n)
+two_put n large small p =
+    let whole : decimal n ≡ digit (n / 10 % 10) ∷ digit (n % 10) ∷ [] = last_digit n large ∙ rw (one_digit (n / 10) (omega arith)) refl in
+    reading (sym whole) p
 
 -- the last two digits after the others
 pub pair_put : {before between after : List ℕ} {at to end : ℕ} (n : ℕ) → 100 ≤ n → Put before between at to (decimal (n / 100))

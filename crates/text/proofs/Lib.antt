@@ -1,7 +1,6 @@
 -- The laws of text put into a lent buffer, and why the buffers of the programs that print keys, reasons and shares suffice.
 pub mod Puts
 pub mod Putting
-pub mod Heads
 pub mod Decimals
 pub mod DigitCounts
 pub mod ColumnParts

@@ -1,13 +1,13 @@
 -- Laws of `Put`: a text after another is one text, because what the first leaves without room the second leaves too.
 use Prim.Native.Nat.{ℕ, zero, suc, ◌+◌, ◌-◌, ◌≤◌, ◌<◌}
 use native.Mathlib.Nat.{add-zero, zero-add}
-use native.Mathlib.Numerals.{add-one, unary_clauses}
+use native.Mathlib.Numerals.{unary_clauses}
 use native.Mathlib.Omega.{arith}
 use mathlib.Core.Path.{◌≡◌, refl, sym, ap, ◌∙◌}
 use mathlib.Core.List.{List, [], ◌∷◌, ◌++◌, append_assoc, append-nil}
 use lib.Dec.{ltb}
-use lib.ListN.{length, take, drop, set, length-append, length-take, length-drop, take-append-drop}
-use lib.Seq.{set_split, append_snoc, take_at, drop_at, drop-drop, length-take-le, take-nil, take_all}
+use lib.ListN.{length, take, drop, length-append, length-take, length-drop, take-append-drop}
+use lib.Seq.{take_at, drop_at, drop-drop, length-take-le, take-nil, take_all}
 use borrow.Author.Tests.{ltb-true, ltb-false}
 use Rattle.rules.proofs.Basics.Views.{Two, yes_true, no_false, two}
 use Rattle.text.specs.Put.{fitting, Put}
@@ -43,12 +43,6 @@ pub put_past : (before : List ℕ) (at : ℕ) (text : List ℕ) → length befor
 put_past before at text past =
     let none : length before - at ≡ 0 = omega arith in
     nothing before at text (ap (λ (n : ℕ). take n text) none)
-
--- one store
-pub put_one : (before : List ℕ) (at byte : ℕ) → at < length before → Put before (set before at byte) at (at + 1) (byte ∷ [])
-put_one before at byte h =
-    written (byte ∷ []) (take_all (length before - at) (byte ∷ []) (omega arith))
-    (rw (add-one, append_snoc) (set_split before at byte h)) refl
 
 -- the buffer keeps its length
 pub keeps : {a b : List ℕ} {i j : ℕ} {xs : List ℕ} → Put a b i j xs → length b ≡ length a
@@ -113,3 +107,7 @@ pub ◌then◌ : {a b c : List ℕ} {i j k : ℕ} {xs ys : List ℕ} → Put a b
 -- the same text in other words
 pub reading : {a b : List ℕ} {i j : ℕ} {xs ys : List ℕ} → xs ≡ ys → Put a b i j xs → Put a b i j ys
 reading e p = rw e at p
+
+-- `then` by a name that a tactic's list takes
+pub joined : {a b c : List ℕ} {i j k : ℕ} {xs ys : List ℕ} → Put a b i j xs → Put b c j k ys → Put a c i k (xs ++ ys)
+joined p q = p then q

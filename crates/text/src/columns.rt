@@ -8,6 +8,7 @@ use crate::{put_byte, put_bytes, put_decimal};
 use rules::Running;
 
 // "the bytes `ok` or `no`"
+#[tactic(auto, using(crate::proofs::ColumnParts::refused_verdict), unfolding(rules::specs::Key::bytes))]
 fn put_verdict(out: &mut [u8], at: usize, refusal: u8) -> usize
     ensures { Put out.old out.new at result (verdict_word refusal) }
 {
@@ -18,6 +19,7 @@ fn put_verdict(out: &mut [u8], at: usize, refusal: u8) -> usize
 }
 
 // A number with a space after it.
+#[tactic(auto, using(crate::proofs::Puts::joined), unfolding(rules::specs::Key::bytes))]
 pub fn put_column(out: &mut [u8], at: usize, n: u64) -> usize
     ensures { Put out.old out.new at result (decimal n ++ bytes " ") }
 {
@@ -26,6 +28,7 @@ pub fn put_column(out: &mut [u8], at: usize, n: u64) -> usize
 }
 
 // "running thread or `-`, timeslice or `-`, donation count"
+#[tactic(auto, unfolding(rules::specs::Key::bytes))]
 fn put_running(out: &mut [u8], at: usize, running: Running) -> usize
     ensures { Put out.old out.new at result (running_columns running) }
 {
@@ -36,21 +39,22 @@ fn put_running(out: &mut [u8], at: usize, running: Running) -> usize
             timeslice,
             count,
         } => {
-            let first = put_column(out, at, thread as u64);
-            let second = put_column(out, first, timeslice as u64);
-            put_decimal(out, second, count as u64)
+            let first = put_column(out, at, u64::from(thread));
+            let second = put_column(out, first, u64::from(timeslice));
+            put_decimal(out, second, u64::from(count))
         }
     }
 }
 
 // "event number from 1, the bytes `ok` or `no`, refusal number", and what runs: all columns but the last.
+// The refusal is a number here, 0 for an accepted event: a `Result` with a `Refusal` would ask more of callers.
 pub fn put_columns(out: &mut [u8], at: usize, number: u64, refusal: u8, running: Running) -> usize
     ensures { Put out.old out.new at result (columns number refusal running) }
 {
     let verdict = put_column(out, at, number);
     let space = put_verdict(out, verdict, refusal);
     let first = put_byte(out, space, b' ');
-    let second = put_column(out, first, refusal as u64);
+    let second = put_column(out, first, u64::from(refusal));
     put_running(out, second, running)
 }
 

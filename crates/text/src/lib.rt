@@ -26,19 +26,17 @@ pub fn put_bytes(out: &mut [u8], at: usize, text: &[u8]) -> usize
     ensures { Put out.old out.new at result text.now }
 {
     let mut place = at;
-    let mut i = 0;
-    while i < text.len() {
-        place = put_byte(out, place, text[i]);
-        i += 1;
+    for &byte in text {
+        place = put_byte(out, place, byte);
     }
     place
 }
 
-// The last digit of a number.
+// The last digit of a number. There is no `From<u64> for u8`: the cast is proved to lose nothing.
 fn last_digit(n: u64) -> u8
     ensures { result ≡ digit (n % 10) }
 {
-    48 + ((n % 10) as u8)
+    b'0' + (n % 10) as u8
 }
 
 // One digit or two.
@@ -49,16 +47,14 @@ fn put_two_digits(out: &mut [u8], at: usize, n: u64) -> usize
     if n < 10 {
         return put_byte(out, at, last_digit(n));
     }
-    let second = put_byte(out, at, last_digit(n / 10));
-    put_byte(out, second, last_digit(n))
+    put_pair(out, at, n)
 }
 
 // The last two digits.
 fn put_pair(out: &mut [u8], at: usize, n: u64) -> usize
     ensures { Put out.old out.new at result (digit (n / 10 % 10) ∷ digit (n % 10) ∷ []) }
 {
-    let second = put_byte(out, at, last_digit(n / 10));
-    put_byte(out, second, last_digit(n))
+    put_bytes(out, at, &[last_digit(n / 10), last_digit(n)])
 }
 
 fn put_four_digits(out: &mut [u8], at: usize, n: u64) -> usize
@@ -98,13 +94,20 @@ pub fn put_decimal(out: &mut [u8], at: usize, n: u64) -> usize
     put_digits(out, at, n)
 }
 
-// "A refused file prints one line: `file`, a space, the number."
+// "A refused file prints one line: `file`, a space, the number." It takes every number, as it did: a `Refusal` would ask more of callers.
 pub fn put_file_line(out: &mut [u8], at: usize, refusal: u8) -> usize
     ensures { Put out.old out.new at result (file_line refusal) }
 {
     let number = put_bytes(out, at, b"file ");
-    let end = put_decimal(out, number, refusal as u64);
+    let end = put_decimal(out, number, u64::from(refusal));
     put_byte(out, end, b'\n')
+}
+
+// A buffer of a size, before anything is put into it.
+pub fn zeros<const N: usize>() -> [u8; N]
+    ensures { result ≡ replicate N 0 }
+{
+    [0; N]
 }
 
 // One byte more than a file may have: `enough_for_key` and its like, proofs/Enough.antt.
@@ -114,5 +117,5 @@ pub const INPUT: usize = 65537;
 pub fn file_buffer() -> [u8; INPUT]
     ensures { result ≡ replicate 65537 0 }
 {
-    [0; INPUT]
+    zeros()
 }

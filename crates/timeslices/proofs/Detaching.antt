@@ -40,7 +40,8 @@ unfolding set_priority
 ranked_places ts t n = map-set_same place_of ts t (with_priority n (get_or ts t free_timeslice)) free_timeslice refl
 
 -- by the place that was read
-pub by_place : (t : ℕ) (order : List ℕ) (ts after : List Timeslice) (x : Timeslice) (p : Place) → x ≡ get_or ts t free_timeslice → x.place ≡ p
+pub by_place : (t : ℕ) (order : List ℕ) (ts after : List Timeslice) (x : Timeslice) (p : Place) → x ≡ get_or ts t free_timeslice
+    → x.place ≡ p
     → Replaced ts (detached_places t (map slice_of ts) order (map place_of ts) p) after
     → Replaced ts (detached_places t (map slice_of ts) order (map place_of ts) (place_at (map place_of ts) t)) after
 by_place t order ts after x p e is r =

@@ -7,8 +7,10 @@ use mathlib.Core.Bool.{Bool, true, false, cond}
 use mathlib.Core.Option.{Option, none, some}
 use native.Mathlib.Omega.{arith}
 use lib.ListN.{length, get_or}
-use lib.Dec.{ltb, eqb}
-use borrow.Author.Tests.{ltb-true, ltb-false, lt-ltb, le-ltb, ne_eqb, eqb-true}
+use lib.Dec.{ltb, leb, eqb}
+use borrow.Author.Tests.{ltb-true, ltb-false, leb-true, leb-false, lt-ltb, le-ltb, ne_eqb, eqb-true}
+use Rattle.std.specs.Prelude as std
+use Rattle.std.specs.Prelude.{Some, None as Nothing}
 use Rattle.rules.specs.declared.Place.{Place}
 use Rattle.rules.specs.declared.Timeslice.{Timeslice}
 use Rattle.rules.specs.declared.Slice.{Slice}
@@ -62,48 +64,48 @@ several_members (some t) m n many more =
     rw (not_one, nor-one) refl
 
 -- no member is found so far
-abbrev pub nobody_yet : Found
-nobody_yet = record { best = 0; least = 0; several = false }
+abbrev pub nobody_yet : std.Option Found
+nobody_yet = Nothing
 
 -- the search of those timeslices of a list that the test takes
 module _ (ss : List Slice) (taken : ℕ → Bool) where
-  unfoldable pub step : Found → ℕ → Found
-  step f t = cond (taken t) (joined f t (priority_at ss t)) f
+  unfoldable pub step : std.Option Found → ℕ → std.Option Found
+  step f t = cond (taken t) (Some (joined f t (priority_at ss t))) f
 
-  unfoldable pub seek : Found → List ℕ → Found
+  unfoldable pub seek : std.Option Found → List ℕ → std.Option Found
   seek f [] = f
   seek f (t ∷ l) = seek (step f t) l
 
   -- where this is the best so far
-  abbrev holding : ℕ → Bool → Found
-  holding b v = record { best = b; least = suc (priority_at ss b); several = v }
+  abbrev holding : ℕ → Bool → std.Option Found
+  holding b v = Some (record { best = b; priority = priority_at ss b; several = v })
 
   -- what one step does
-  passes : (f : Found) (t : ℕ) → taken t ≡ false → step f t ≡ f
+  passes : (f : std.Option Found) (t : ℕ) → taken t ≡ false → step f t ≡ f
   unfolding step
   passes f t e = rw e refl
 
-  joins_below : (b t : ℕ) (v : Bool) → taken t ≡ true → ltb (priority_at ss t) (suc (priority_at ss b)) ≡ true
+  joins_below : (b t : ℕ) (v : Bool) → taken t ≡ true → leb (priority_at ss t) (priority_at ss b) ≡ true
       → step (holding b v) t ≡ holding b true
   unfolding step joined
-  joins_below b t v e low = let one = lt-ltb 0 (suc (priority_at ss b)) (omega arith) in rw (e, low, one) refl
+  joins_below b t v e low = rw (e, low) refl
 
-  joins_above : (b t : ℕ) (v : Bool) → taken t ≡ true → ltb (priority_at ss t) (suc (priority_at ss b)) ≡ false
+  joins_above : (b t : ℕ) (v : Bool) → taken t ≡ true → leb (priority_at ss t) (priority_at ss b) ≡ false
       → step (holding b v) t ≡ holding t true
   unfolding step joined
-  joins_above b t v e high = let one = lt-ltb 0 (suc (priority_at ss b)) (omega arith) in rw (e, high, one) refl
+  joins_above b t v e high = rw (e, high) refl
 
   joins_first : (t : ℕ) → taken t ≡ true → step nobody_yet t ≡ holding t false
   unfolding step joined
-  joins_first t e = let none_yet = le-ltb (priority_at ss t) 0 (omega arith) in rw (e, none_yet) refl
+  joins_first t e = rw e refl
 
   holds : (b : ℕ) (v : Bool) (l : List ℕ)
       → ended (seek (holding b v) l) ≡ members_of (upper ss b (topmost ss taken l)) (cond v 2 1 + length (filter taken l))
   unfolding seek topmost filter
-  holds b true [] = rw (ne_eqb (suc (priority_at ss b)) 0 (λ e. absurd (omega arith))) refl
-  holds b false [] = rw (ne_eqb (suc (priority_at ss b)) 0 (λ e. absurd (omega arith))) refl
+  holds b true [] = refl
+  holds b false [] = refl
   holds b v (t ∷ l) =
-      by (two (taken t)) (two (ltb (priority_at ss t) (suc (priority_at ss b)))) (holds b v l) (holds b true l) (holds t true l)
+      by (two (taken t)) (two (leb (priority_at ss t) (priority_at ss b))) (holds b v l) (holds b true l) (holds t true l)
     where
       many : (w : Bool) → 1 < cond w 2 1 + suc (length (filter taken l))
       many true = omega arith
@@ -114,19 +116,19 @@ module _ (ss : List Slice) (taken : ℕ → Bool) where
       more u = several_members (upper ss u (topmost ss taken l)) (2 + length (filter taken l)) (cond v 2 1 + suc (length (filter taken l)))
           (omega arith) (many v)
 
-      by : Two (taken t) → Two (ltb (priority_at ss t) (suc (priority_at ss b)))
+      by : Two (taken t) → Two (leb (priority_at ss t) (priority_at ss b))
           → ended (seek (holding b v) l) ≡ members_of (upper ss b (topmost ss taken l)) (cond v 2 1 + length (filter taken l))
           → ended (seek (holding b true) l) ≡ members_of (upper ss b (topmost ss taken l)) (2 + length (filter taken l))
           → ended (seek (holding t true) l) ≡ members_of (upper ss t (topmost ss taken l)) (2 + length (filter taken l))
           → ended (seek (holding b v) (t ∷ l))
           ≡ members_of (upper ss b (topmost ss taken (t ∷ l))) (cond v 2 1 + length (filter taken (t ∷ l)))
-      by (no_false e) w same first second = ap (λ (g : Found). ended (seek g l)) (passes (holding b v) t e) ∙ rw e same
+      by (no_false e) w same first second = ap (λ (g : std.Option Found). ended (seek g l)) (passes (holding b v) t e) ∙ rw e same
       by (yes_true e) (yes_true low) same first second =
-          let keeps = upper_first ss b t (topmost ss taken l) (omega (arith, ltb-true (priority_at ss t) (suc (priority_at ss b)) low)) in
-          ap (λ (g : Found). ended (seek g l)) (joins_below b t v e low) ∙ rw (e, keeps) (first ∙ more b)
+          let keeps = upper_first ss b t (topmost ss taken l) (leb-true (priority_at ss t) (priority_at ss b) low) in
+          ap (λ (g : std.Option Found). ended (seek g l)) (joins_below b t v e low) ∙ rw (e, keeps) (first ∙ more b)
       by (yes_true e) (no_false high) same first second =
-          let loses = upper_second ss b t (topmost ss taken l) (omega (arith, ltb-false (priority_at ss t) (suc (priority_at ss b)) high)) in
-          ap (λ (g : Found). ended (seek g l)) (joins_above b t v e high) ∙ rw (e, loses) (second ∙ more t)
+          let loses = upper_second ss b t (topmost ss taken l) (leb-false (priority_at ss t) (priority_at ss b) high) in
+          ap (λ (g : std.Option Found). ended (seek g l)) (joins_above b t v e high) ∙ rw (e, loses) (second ∙ more t)
 
   pub finds : (l : List ℕ) → ended (seek nobody_yet l) ≡ members_of (topmost ss taken l) (length (filter taken l))
   unfolding seek topmost filter
@@ -135,15 +137,15 @@ module _ (ss : List Slice) (taken : ℕ → Bool) where
     where
       by : Two (taken t) → ended (seek nobody_yet l) ≡ members_of (topmost ss taken l) (length (filter taken l))
           → ended (seek nobody_yet (t ∷ l)) ≡ members_of (topmost ss taken (t ∷ l)) (length (filter taken (t ∷ l)))
-      by (no_false e) same = ap (λ (g : Found). ended (seek g l)) (passes nobody_yet t e) ∙ rw e same
+      by (no_false e) same = ap (λ (g : std.Option Found). ended (seek g l)) (passes nobody_yet t e) ∙ rw e same
       by (yes_true e) same =
           let one : 1 + length (filter taken l) ≡ suc (length (filter taken l)) = omega arith in
-          ap (λ (g : Found). ended (seek g l)) (joins_first t e)
+          ap (λ (g : std.Option Found). ended (seek g l)) (joins_first t e)
           ∙ rw e (holds t false l ∙ ap (members_of (upper ss t (topmost ss taken l))) one)
 
 -- the loop along the neighbours: what is left decides the whole
 module _ (ts : List Timeslice) (set : Place) (after : List ℕ) (live : ℕ) where
-  pub record Seeking (f : Found) (left at : ℕ) : Type 0 where
+  pub record Seeking (f : std.Option Found) (left at : ℕ) : Type 0 where
     pub whole : seek (map slice_of ts) (takes set ts) f (turns_from left after at)
         ≡ seek (map slice_of ts) (takes set ts) nobody_yet (turns_read after live)
 
@@ -151,9 +153,9 @@ module _ (ts : List Timeslice) (set : Place) (after : List ℕ) (live : ℕ) whe
   seek_all n e = record { whole = ap (λ (k : ℕ). seek (map slice_of ts) (takes set ts) nobody_yet (turns_from k after sentinel)) e }
 
   -- timeslice t, whose record x has been read
-  pub seek_next : (f g : Found) (left at t k c d : ℕ) (x : Timeslice) → Seeking f left at → 0 < left → t ≡ neighbour after at
+  pub seek_next : (f g : std.Option Found) (left at t k c d : ℕ) (x : Timeslice) → Seeking f left at → 0 < left → t ≡ neighbour after at
       → k ≡ t → get_or ts k free_timeslice ≡ x → c ≡ code_of set → d ≡ code_of x.place
-      → g ≡ cond (eqb d c) (joined f t x.priority) f → Seeking g (left - 1) k
+      → g ≡ cond (eqb d c) (Some (joined f t x.priority)) f → Seeking g (left - 1) k
   unfolding seek step
   seek_next f g left at t k c d x s some_left after_it same there sought code is =
       let says = shows ts k t x same there in
@@ -161,13 +163,13 @@ module _ (ts : List Timeslice) (set : Place) (after : List ℕ) (live : ℕ) whe
       let stepped : g ≡ step (map slice_of ts) (takes set ts) f t = is ∙ rw (taken, says.1) refl in
       record {
         whole =
-            ap (λ (h : Found). seek (map slice_of ts) (takes set ts) h (turns_from (left - 1) after k)) stepped
+            ap (λ (h : std.Option Found). seek (map slice_of ts) (takes set ts) h (turns_from (left - 1) after k)) stepped
             ∙ ap (λ (j : ℕ). seek (map slice_of ts) (takes set ts) f (t ∷ turns_from (left - 1) after j)) same
             ∙ ap (seek (map slice_of ts) (takes set ts) f) (sym (turn_from left after at t some_left after_it))
             ∙ s.whole;
       }
 
-  pub sought_all : (f : Found) (left at : ℕ) (r : Members) → Seeking f left at → left ≤ 0 → r ≡ ended f
+  pub sought_all : (f : std.Option Found) (left at : ℕ) (r : Members) → Seeking f left at → left ≤ 0 → r ≡ ended f
       → r ≡ members_of (topmost_in set ts (turns_read after live)) (length (filter (takes set ts) (turns_read after live)))
   unfolding seek
   sought_all f left at r s none_left is =

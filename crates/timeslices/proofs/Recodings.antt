@@ -15,8 +15,8 @@ use Rattle.rules.specs.State.{free_place, priority_at, place_at}
 use Rattle.rules.specs.Order.{topmost}
 use Rattle.rules.specs.Release.{released_place, released_places}
 use Rattle.rules.proofs.Basics.Views.{Two, yes_true, no_false, two, Same, equal, different, same}
-use Rattle.tables.specs.declared.order.Sought.{Sought}
-use Rattle.tables.specs.declared.order.Sought.TheVariants.{Nothing, At}
+use Rattle.std.specs.Prelude as std
+use Rattle.std.specs.Prelude.{Some, None}
 use Rattle.tables.specs.Timeslices.{with_place, slice_of, place_of, free_timeslice}
 use Rattle.tables.specs.Sets.{set_of, sought_of}
 use Rattle.timeslices.specs.Releasing.{places_after, Replaced}
@@ -106,7 +106,8 @@ module _ (at : Place → Bool) (q : ℕ) (no-queue : at Queue ≡ false) where
       go (different n isnt) = get_or-set_other ps u t (move u (place_at ps u)) free_place n
 
   -- through the whole turn order
-  kept : (l : List ℕ) (ps : List Place) (t : ℕ) → move t (place_at ps t) ≡ place_at ps t → place_at (released_places at q l ps) t ≡ place_at ps t
+  kept : (l : List ℕ) (ps : List Place) (t : ℕ) → move t (place_at ps t) ≡ place_at ps t
+      → place_at (released_places at q l ps) t ≡ place_at ps t
   unfolding released_places
   kept [] ps t e = refl
   kept (u ∷ l) ps t e =
@@ -134,16 +135,16 @@ released_code_lem p s q u = rw (in_set p s) (go (set_of s p) (eqb u q))
     go false d = refl
 
 -- the search of a set by its code c, and the release of the codes
-module _ (order codes heights : List ℕ) (live : ℕ) (s : Place) (c : ℕ) (f : Sought) (is : c ≡ code_of s)
+module _ (order codes heights : List ℕ) (live : ℕ) (s : Place) (c : ℕ) (f : std.Option ℕ) (is : c ≡ code_of s)
     (e : sought_of f ≡ top_of order (highest c codes heights 0 (entries_of live))) where
-  pub codes_none : f ≡ Nothing
-      → (sought_of Nothing ≡ top_of order (highest (code_of s) codes heights 0 (entries_of live))) × ReleasedCodes s order live codes codes
-      Nothing
+  pub codes_none : f ≡ None
+      → (sought_of None ≡ top_of order (highest (code_of s) codes heights 0 (entries_of live))) × ReleasedCodes s order live codes codes
+      None
   codes_none at = (sym (ap sought_of at) ∙ rw is at e, refl)
 
-  pub codes_some : (q b : ℕ) (after : List ℕ) → f ≡ At q → b ≡ code_of (Behind q) → Recoded (released_code c q b) order live codes after
-      → (sought_of (At q) ≡ top_of order (highest (code_of s) codes heights 0 (entries_of live))) × ReleasedCodes s order live codes after
-      (At q)
+  pub codes_some : (q b : ℕ) (after : List ℕ) → f ≡ Some q → b ≡ code_of (Behind q) → Recoded (released_code c q b) order live codes after
+      → (sought_of (Some q) ≡ top_of order (highest (code_of s) codes heights 0 (entries_of live))) × ReleasedCodes s order live codes after
+      (Some q)
   codes_some q b after at behind ch = (sym (ap sought_of at) ∙ rw is at e, rw (is, behind) at ch)
 
 -- a set of timeslices and its codes after a release
@@ -152,26 +153,26 @@ pub record Freed (s : Place) (ts : List Timeslice) (order : List ℕ) (live : �
   pub coded : Coded us order live codes heights
 
 -- a release of the set whose search found f: an empty set changes nothing
-module _ (ts : List Timeslice) (order : List ℕ) (live : ℕ) (codes after heights : List ℕ) (s : Place) (f : Sought)
+module _ (ts : List Timeslice) (order : List ℕ) (live : ℕ) (codes after heights : List ℕ) (s : Place) (f : std.Option ℕ)
     (full : length order ≡ 128)
     (r : Coded ts order live codes heights) (e : sought_of f ≡ top_of order (highest (code_of s) codes heights 0 (entries_of live)))
     (ch : ReleasedCodes s order live codes after f) where
   top : sought_of f ≡ topmost (map slice_of ts) (takes s ts) (take live order)
   top = e ∙ top_is ts order live codes heights full r s
 
-  pub freed_none : f ≡ Nothing → Freed s ts order live ts after heights
+  pub freed_none : f ≡ None → Freed s ts order live ts after heights
   freed_none is =
-      let same_codes : after ≡ codes = subst (λ (g : Sought). ReleasedCodes s order live codes after g) is ch in
+      let same_codes : after ≡ codes = subst (λ (g : std.Option ℕ). ReleasedCodes s order live codes after g) is ch in
       record {
         replaced = record { slices = refl; places = nobody (set_of s) (map slice_of ts) (take live order) (map place_of ts) f top is };
         coded = rw same_codes r;
       }
 
-  pub freed_some : (q : ℕ) (us : List Timeslice) → set_of s Queue ≡ false → f ≡ At q
+  pub freed_some : (q : ℕ) (us : List Timeslice) → set_of s Queue ≡ false → f ≡ Some q
       → Replaced ts (released_places (set_of s) q (take live order) (map place_of ts)) us → Freed s ts order live us after heights
   freed_some q us no-queue is re =
       let changed : Recoded (released_code (code_of s) q (code_of (Behind q))) order live codes after =
-      subst (λ (g : Sought). ReleasedCodes s order live codes after g) is ch in
+      subst (λ (g : std.Option ℕ). ReleasedCodes s order live codes after g) is ch in
       record {
         replaced = record {
           slices = re.slices;

@@ -14,8 +14,8 @@ use Rattle.rules.specs.declared.Timeslice.{Timeslice}
 use Rattle.rules.specs.declared.Slice.{Slice}
 use Rattle.rules.specs.State.{State, place_at, with_places}
 use Rattle.rules.specs.Order.{topmost}
-use Rattle.tables.specs.declared.order.Sought.{Sought}
-use Rattle.tables.specs.declared.order.Sought.TheVariants.{Nothing, At}
+use Rattle.std.specs.Prelude as std
+use Rattle.std.specs.Prelude.{Some, None}
 use Rattle.rules.specs.Release.{released_place, released_places, release, release_to, topmost_at}
 use Rattle.tables.specs.Timeslices.{with_place, slice_of, place_of, free_timeslice}
 use Rattle.tables.specs.Sets.{sought_of}
@@ -103,10 +103,10 @@ release_is at s = go (topmost_at at s)
     go (some q) = refl
 
 -- a search that found nothing, or the topmost one
-module _ (at : Place → Bool) (ss : List Slice) (order : List ℕ) (ps : List Place) (f : Sought)
+module _ (at : Place → Bool) (ss : List Slice) (order : List ℕ) (ps : List Place) (f : std.Option ℕ)
     (e : sought_of f ≡ topmost ss (λ t. at (place_at ps t)) order) where
-  pub nobody : f ≡ Nothing → ps ≡ places_after at ss order ps
-  nobody h = ap (λ (g : Sought). released_from at order ps (sought_of g)) (sym h) ∙ ap (released_from at order ps) e
+  pub nobody : f ≡ None → ps ≡ places_after at ss order ps
+  nobody h = ap (λ (g : std.Option ℕ). released_from at order ps (sought_of g)) (sym h) ∙ ap (released_from at order ps) e
 
-  pub somebody : (q : ℕ) → f ≡ At q → released_places at q order ps ≡ places_after at ss order ps
-  somebody q h = ap (λ (g : Sought). released_from at order ps (sought_of g)) (sym h) ∙ ap (released_from at order ps) e
+  pub somebody : (q : ℕ) → f ≡ Some q → released_places at q order ps ≡ places_after at ss order ps
+  somebody q h = ap (λ (g : std.Option ℕ). released_from at order ps (sought_of g)) (sym h) ∙ ap (released_from at order ps) e

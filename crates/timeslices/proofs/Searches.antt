@@ -1,11 +1,12 @@
 -- Codes and heights: the loops that fill and search them, and that the highest height in a set is that of its topmost timeslice.
-use Prim.Native.Nat.{ℕ, zero, suc, ◌+◌, ◌*◌, ◌-◌, ◌≤◌, ◌<◌}
+use Prim.Native.Nat.{ℕ, zero, suc, max, ◌+◌, ◌*◌, ◌-◌, ◌≤◌, ◌<◌}
 use mathlib.Core.Path.{◌≡◌, refl, sym, ◌∙◌, ap, subst}
 use mathlib.Core.Logic.{⊎_elim}
 use mathlib.Core.List.{List, map}
 use mathlib.Core.Bool.{Bool, true, false, cond}
 use mathlib.Core.Option.{Option, none, some}
 use native.Mathlib.Omega.{arith}
+use native.Mathlib.Numerals.{add-one}
 use native.Mathlib.Nat.{eq-or-lt_of_le}
 use lib.ListN.{length, get_or, set, take, drop, length-set}
 use lib.Seq.{get_or-set_same, get_or-set_other, get_or-take, ext_get_or}
@@ -17,7 +18,7 @@ use Rattle.rules.specs.declared.Timeslice.{Timeslice}
 use Rattle.rules.specs.State.{priority_at, place_at}
 use Rattle.rules.specs.Order.{topmost, upper}
 use Rattle.rules.proofs.Basics.Views.{Two, yes_true, no_false, two, Same, equal, different, same}
-use Rattle.tables.specs.declared.order.Sought.TheVariants.{Nothing, At}
+use Rattle.std.specs.Prelude.{Some, None}
 use Rattle.tables.specs.Timeslices.{slice_of, place_of, free_timeslice}
 use Rattle.tables.specs.Sets.{set_of, sought_of, kind_of, number_of}
 use Rattle.tables.specs.Turning.{entries_of}
@@ -29,6 +30,10 @@ use Rattle.tables.proofs.Places.{same_place}
 use Rattle.neighbours.specs.Sides.{sentinel, neighbour}
 use Rattle.neighbours.specs.Reading.{turns_read}
 use Rattle.neighbours.proofs.Stepping.{Read, read_none, read_this, read_one, length-turns}
+
+-- in turn i of a loop `for _ in 0..n`, what is left is one less
+pub in_turn : (P : ℕ → Type 0) (n i : ℕ) → P (n - i - 1) → P (n - (i + 1))
+in_turn P n i h = let less : n - i - 1 ≡ n - (i + 1) = omega arith in subst P less h
 
 -- a loop that stores one entry after another: those before i have their new value, the others are as they were
 pub record Storing (value : ℕ → ℕ) (before now : List ℕ) (i : ℕ) : Type 0 where
@@ -158,7 +163,8 @@ module _ (change : ℕ → ℕ → ℕ) (order : List ℕ) (live n : ℕ) (befor
   pub recode_none : n ≡ entries_of live → Recoding change order live n before before 0
   recode_none e = record { last = e; inside = omega arith; stored = store_none _ before }
 
-  pub recode_one : (now : List ℕ) (i v : ℕ) → Recoding change order live n before now i → i < n → v ≡ change (get_or order i 0) (get_or now i 0)
+  pub recode_one : (now : List ℕ) (i v : ℕ) → Recoding change order live n before now i → i < n
+      → v ≡ change (get_or order i 0) (get_or now i 0)
       → Recoding change order live n before (set now i v) (i + 1)
   recode_one now i v r short e =
       record {
@@ -170,34 +176,45 @@ module _ (change : ℕ → ℕ → ℕ) (order : List ℕ) (live n : ℕ) (befor
   pub recoded : (now : List ℕ) (i : ℕ) → Recoding change order live n before now i → n ≤ i → Recoded change order live before now
   recoded now i r out = store_all _ live n before now i r.last r.stored out r.inside
 
--- the search from the back: the best so far is the highest from entry i on
-pub record Scanned (set : ℕ) (codes heights : List ℕ) (n best i : ℕ) : Type 0 where
-  pub inside : i ≤ n
-  pub holds : best ≡ highest set codes heights i (n - i)
+-- `max` is the definition's larger of two
+max_is : (best w : ℕ) → max best w ≡ higher best w
+max_is best w = go (two (ltb best w))
+  where
+    go : Two (ltb best w) → max best w ≡ higher best w
+    go (yes_true e) = let less = ltb-true best w e in rw e (omega arith)
+    go (no_false e) = let le = ltb-false best w e in rw e (omega arith)
 
 module _ (set : ℕ) (codes heights : List ℕ) (n : ℕ) where
-  pub seek_none : (i : ℕ) → i ≡ n → Scanned set codes heights n 0 i
-  unfolding highest
-  seek_none i e = let none_left : n - i ≡ 0 = omega arith in record { inside = omega arith; holds = rw none_left refl }
+  -- the search has come to entry i: the best so far and the highest from there on give the whole
+  pub record Scanned (best i : ℕ) : Type 0 where
+    pub whole : max best (highest set codes heights i (n - i)) ≡ highest set codes heights 0 n
 
-  pub seek_one : (best j i w b : ℕ) → Scanned set codes heights n best j → j ≡ suc i → w ≡ weight (get_or codes i 0) (get_or heights i 0) set
-      → b ≡ higher best w
-      → Scanned set codes heights n b i
-  unfolding highest
-  seek_one best j i w b s e weighs is =
-      let one : n - i ≡ suc (n - suc i) = omega (arith, s.inside) in
-      let rest : best ≡ highest set codes heights (suc i) (n - suc i) = rw e at s.holds in
-      record { inside = omega (arith, s.inside); holds = rw (one, is, weighs, rest) refl }
+  pub scan_none : Scanned 0 0
+  scan_none = let all : n - 0 ≡ n = omega arith in record { whole = rw all (omega arith) }
 
-  pub sought : (best i : ℕ) → Scanned set codes heights n best i → i ≤ 0 → best ≡ highest set codes heights 0 n
-  sought best i s out = let all : n - i ≡ n = omega arith in let z : i ≡ 0 = omega arith in rw (all, z) at s.holds
+  pub scan_one : (best i w b : ℕ) → Scanned best i → i < n → w ≡ weight (get_or codes i 0) (get_or heights i 0) set → b ≡ max best w
+      → Scanned b (i + 1)
+  unfolding highest
+  scan_one best i w b s short weighs is =
+      let one : n - i ≡ suc (n - suc i) = omega arith in
+      let rest = highest set codes heights (suc i) (n - suc i) in
+      let here = weight (get_or codes i 0) (get_or heights i 0) set in
+      let split : max best (higher rest here) ≡ highest set codes heights 0 n = rw one at s.whole in
+      let both : max best (max rest w) ≡ highest set codes heights 0 n =
+      rw weighs (ap (λ (m : ℕ). max best m) (max_is rest here) ∙ split) in
+      record { whole = rw add-one (omega (arith, both)) }
+
+  pub scanned : (best i : ℕ) → Scanned best i → n ≤ i → best ≡ highest set codes heights 0 n
+  unfolding highest
+  scanned best i s out = let none_left : n - i ≡ 0 = omega arith in omega (arith, rw none_left at s.whole)
 
 -- the timeslice of the best height, or none
-pub some_top : (order : List ℕ) (best i h : ℕ) → best ≡ h → 0 < best → i ≡ turn_of best → sought_of (At (get_or order i 0)) ≡ top_of order h
+pub some_top : (order : List ℕ) (best i h : ℕ) → best ≡ h → 0 < best → i ≡ turn_of best
+    → sought_of (Some (get_or order i 0)) ≡ top_of order h
 some_top order zero i h e above at = absurd (omega arith)
 some_top order (suc b) i h e above at = rw (sym e, at) refl
 
-pub no_top : (order : List ℕ) (best h : ℕ) → best ≡ h → best ≤ 0 → sought_of Nothing ≡ top_of order h
+pub no_top : (order : List ℕ) (best h : ℕ) → best ≡ h → best ≤ 0 → sought_of None ≡ top_of order h
 no_top order best h e none_above = let z : h ≡ 0 = omega arith in rw z refl
 
 -- a number below 8 and a multiple of 8 are got back from their sum
@@ -279,7 +296,8 @@ module _ (ts : List Timeslice) (order : List ℕ) (live : ℕ) (codes heights : 
 
   -- one entry more
   weigh : (i best : ℕ) (o : Option ℕ) (v : Bool) → i < entries_of live → Best (suc i) best o
-      → Best i (higher best (cond v (height_of (priority (get_or order i 0)) i) 0)) (cond v (upper (map slice_of ts) (get_or order i 0) o) o)
+      → Best i (higher best (cond v (height_of (priority (get_or order i 0)) i) 0))
+      (cond v (upper (map slice_of ts) (get_or order i 0) o) o)
   weigh i best o true short h = pick i best o short h
   weigh i best o false short h = let none_above : ltb best 0 ≡ false = le-ltb best 0 (omega arith) in rw none_above (wider i best o h)
 
@@ -308,6 +326,7 @@ module _ (ts : List Timeslice) (order : List ℕ) (live : ℕ) (codes heights : 
       ap (top_of order) one ∙ ap some (ap (λ (i : ℕ). get_or order i 0) at ∙ h.at)
 
   -- so the search through codes and heights is the search that document 01 defines
-  pub top_is : top_of order (highest (code_of s) codes heights 0 (entries_of live)) ≡ topmost (map slice_of ts) (takes s ts) (take live order)
+  pub top_is : top_of order (highest (code_of s) codes heights 0 (entries_of live))
+      ≡ topmost (map slice_of ts) (takes s ts) (take live order)
   top_is = found_by (highest (code_of s) codes heights 0 (entries_of live)) (topmost (map slice_of ts) (takes s ts) (take live order))
       (stands_from (entries_of live) 0 (omega arith))

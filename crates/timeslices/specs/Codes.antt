@@ -1,12 +1,11 @@
 -- The live timeslices in turn order as numbers: a code for the place and a height for the standing of each.
-use Rattle.std.specs.Prelude.{ℕ, zero, suc, ◌+◌, ◌*◌, ◌-◌, ◌%◌, ◌≤◌, ◌<◌, ◌≡◌, List, map, cond, length, get_or, ltb, eqb}
+use Rattle.std.specs.Prelude.{ℕ, zero, suc, ◌+◌, ◌*◌, ◌-◌, ◌%◌, ◌≤◌, ◌<◌, ◌≡◌, List, map, cond, length, get_or, ltb, eqb, Some, None}
+use Rattle.std.specs.Prelude as std
 use Rattle.std.proofs.Math.Option.{Option, none, some}
 use Rattle.rules.specs.declared.Place.{Place}
 use Rattle.rules.specs.declared.Place.TheVariants.{Behind}
 use Rattle.rules.specs.declared.Timeslice.{Timeslice}
 use Rattle.rules.specs.State.{place_at, priority_at}
-use Rattle.tables.specs.declared.order.Sought.{Sought}
-use Rattle.tables.specs.declared.order.Sought.TheVariants.{Nothing, At}
 use Rattle.tables.specs.Timeslices.{slice_of, place_of}
 use Rattle.tables.specs.Sets.{kind_of, number_of}
 use Rattle.tables.specs.Turning.{entries_of}
@@ -70,9 +69,9 @@ abbrev pub Recoded : (ℕ → ℕ → ℕ) → List ℕ → ℕ → List ℕ →
 Recoded change order live before after = Entered (λ i. change (get_or order i 0) (get_or before i 0)) live before after
 
 -- the codes after the release of a set whose topmost timeslice is this one
-abbrev pub ReleasedCodes : Place → List ℕ → ℕ → List ℕ → List ℕ → Sought → Type 0
-ReleasedCodes set order live before after Nothing = after ≡ before
-ReleasedCodes set order live before after (At q) = Recoded (released_code (code_of set) q (code_of (Behind q))) order live before after
+abbrev pub ReleasedCodes : Place → List ℕ → ℕ → List ℕ → List ℕ → std.Option ℕ → Type 0
+ReleasedCodes set order live before after None = after ≡ before
+ReleasedCodes set order live before after (Some q) = Recoded (released_code (code_of set) q (code_of (Behind q))) order live before after
 
 -- codes and heights are those of the timeslices
 pub record Coded (ts : List Timeslice) (order : List ℕ) (live : ℕ) (codes heights : List ℕ) : Type 0 where

@@ -5,4 +5,3 @@ pub mod heights;
 pub mod rank;
 pub mod release;
 pub mod search;
-pub mod slots;

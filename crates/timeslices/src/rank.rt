@@ -6,16 +6,15 @@ ghost use Rattle.neighbours.specs.Reading.{turns_read};
 ghost use Rattle.timeslices.specs.Releasing.{detached_places, Replaced};
 
 use crate::release::release;
-use crate::slots::with_record;
 use rules::{Place, Timeslice};
-use tables::lookup::timeslice_at;
+use tables::lookup::{timeslice_at, with_entry};
 
-pub fn with_priority(mut timeslices: [Timeslice; 128], t: u8, priority: u8) -> [Timeslice; 128]
+#[tactic(auto, unfolding(tables::specs::Timeslices::set_priority))]
+pub fn with_priority(timeslices: [Timeslice; 128], t: u8, priority: u8) -> [Timeslice; 128]
     ensures { result ≡ set_priority t priority timeslices }
 {
     let x = timeslice_at(timeslices, t);
-    let y = Timeslice { priority, ..x };
-    with_record(timeslices, t, y)
+    with_entry(timeslices, t, Timeslice { priority, ..x })
 }
 
 // Nobody stands Behind the timeslice any more, and it stands Behind nobody.
@@ -30,18 +29,15 @@ pub fn detached(
         (place_at (map place_of timeslices) t)) result }
 {
     let x = timeslice_at(timeslices, t);
-    let place = x.place;
-    match place {
+    match x.place {
         Place::Queue => release(timeslices, after, live, Place::Behind(t)),
         Place::Behind(_) => {
             let y = Timeslice {
                 place: Place::Queue,
                 ..x
             };
-            with_record(timeslices, t, y)
+            with_entry(timeslices, t, y)
         }
-        Place::On(_) => timeslices,
-        Place::Stalled => timeslices,
-        Place::Spent => timeslices,
+        Place::On(_) | Place::Stalled | Place::Spent => timeslices,
     }
 }

@@ -8,27 +8,21 @@ ghost use Rattle.neighbours.specs.Reading.{turns_read};
 ghost use Rattle.timeslices.specs.Releasing.{places_after, Replaced};
 
 use crate::search::{Members, members_of};
-use crate::slots::with_record;
 use neighbours::sides::neighbour_at;
 use rules::{Place, Timeslice};
-use tables::lookup::timeslice_at;
-use tables::numbers::{entries, index};
-use tables::order::in_set;
+use tables::lookup::{timeslice_at, with_entry};
+use tables::numbers::entries;
 
 // The topmost one of a released set goes to Queue, the rest go Behind that one.
 pub fn released_one(x: Timeslice, t: u8, first: u8) -> Timeslice
     ensures { result ≡ with_place (cond (eqb t first) Queue (Behind first)) x }
 {
-    if t == first {
-        return Timeslice {
-            place: Place::Queue,
-            ..x
-        };
-    }
-    Timeslice {
-        place: Place::Behind(first),
-        ..x
-    }
+    let place = if t == first {
+        Place::Queue
+    } else {
+        Place::Behind(first)
+    };
+    Timeslice { place, ..x }
 }
 
 pub fn released(
@@ -41,20 +35,12 @@ pub fn released(
     ensures { Replaced timeslices
         (released_places (set_of set) first (turns_read after.now live) (map place_of timeslices)) result }
 {
-    let mut left = entries(live);
     let mut at: usize = 128;
-    while 0 < left {
-        left -= 1;
+    for _ in 0..entries(live) {
         let t = neighbour_at(after, at);
-        let k = index(t);
-        at = k;
-        if k < 128 {
-            let x = timeslices[k];
-            let place = x.place;
-            if in_set(place, set) {
-                let y = released_one(x, t, first);
-                timeslices[k] = y;
-            }
+        at = usize::from(t);
+        if at < 128 && timeslices[at].place == set {
+            timeslices[at] = released_one(timeslices[at], t, first);
         }
     }
     timeslices
@@ -70,8 +56,7 @@ pub fn release(
     ensures { Replaced timeslices
         (places_after (set_of set) (map slice_of timeslices) (turns_read after.now live) (map place_of timeslices)) result }
 {
-    let found = members_of(timeslices, after, live, set);
-    match found {
+    match members_of(timeslices, after, live, set) {
         Members::None => timeslices,
         Members::One(q) => {
             let x = timeslice_at(timeslices, q);
@@ -79,7 +64,7 @@ pub fn release(
                 place: Place::Queue,
                 ..x
             };
-            with_record(timeslices, q, y)
+            with_entry(timeslices, q, y)
         }
         Members::Several(q) => released(timeslices, after, live, set, q),
     }

@@ -10,14 +10,14 @@ use Rattle.rules.specs.Plain.{PlainAnswered, plain_offer}
 use Rattle.rules.specs.Lists.{AllRanged, links_of}
 use Rattle.rules.proofs.WithoutPlaces.{OfSound, of_sound_machine}
 use Rattle.dispatcher.specs.declared.Machine.{Machine}
-use Rattle.dispatcher.specs.declared.Answered as dispatcher
+use Rattle.dispatcher.specs.Promise as dispatcher
 use Rattle.dispatcher.specs.Shown.{shown, sound_machine}
 use Rattle.dispatcher.specs.Shown as machines
 use Rattle.dispatcher.proofs.Stored.{sound_shown}
 use Rattle.dispatcher.proofs.Runs.{Runs, empty_shown, empty_machine_sound}
 use Rattle.dispatcher.proofs.Demands.{Same, AllSame, demand_3}
 use Rattle.plain_engine.specs.declared.PlainMachine.{PlainMachine}
-use Rattle.plain_engine.specs.declared.Answered as plain
+use Rattle.plain_engine.specs.Promise as plain
 use Rattle.plain_engine.specs.Shown.{plain_shown, empty_machine}
 use Rattle.plain_engine.proofs.Runs.{PlainRuns, Plainly, AllPlainly, plain_engine}
 

@@ -1,11 +1,10 @@
 #![tactic(auto)]
 // The two engines side by side, document 02, [1]: a machine of the dispatcher as the plain engine takes it, and the keys of both. That they
 // agree is proved in proofs/Demand.antt.
-ghost use Rattle.std.specs.Prelude.{◌≡◌, map, take};
+ghost use Rattle.std.specs.Prelude.{◌≡◌, take};
 ghost use Rattle.rules.specs.State.{forget};
 ghost use Rattle.rules.specs.EventFile.{file_refusal};
 ghost use Rattle.rules.specs.Key.{key as key_of, plain_key, but_last};
-ghost use Rattle.tables.specs.Timeslices.{slice_of};
 ghost use Rattle.dispatcher.specs.Shown.{shown};
 ghost use Rattle.plain_engine.specs.Shown.{plain_shown};
 ghost use Rattle.two_engines.specs.Front.{AtFront};
@@ -14,49 +13,18 @@ use dispatcher::Machine;
 use key_sheet::write_key;
 use plain_engine::PlainMachine;
 use plain_sheet::write_plain_key;
-use rules::{Slice, Timeslice};
-
-pub(crate) fn slice_of(x: Timeslice) -> Slice
-    ensures { result ≡ slice_of x }
-{
-    Slice {
-        owner: x.owner,
-        priority: x.priority,
-        quantum: x.quantum,
-        left: x.left,
-    }
-}
-
-pub(crate) fn slices_of(timeslices: [Timeslice; 128]) -> [Slice; 128]
-    ensures { result ≡ map slice_of timeslices }
-{
-    let free = Slice::FREE;
-    let mut slices = [free; Slice::LIMIT];
-    let mut i: usize = 0;
-    while i < 128 {
-        let x = timeslices[i];
-        let y = slice_of(x);
-        slices[i] = y;
-        i += 1;
-    }
-    slices
-}
+use rules::Slice;
 
 // "the plain engine takes it without the places"
 pub fn without_places(machine: Machine) -> PlainMachine
     ensures { plain_shown result ≡ forget (shown machine) }
 {
-    let threads = machine.threads;
-    let timeslices = machine.timeslices;
-    let order = machine.turn_order();
-    let running = machine.running;
-    let slices = slices_of(timeslices);
     PlainMachine {
-        threads,
-        slices,
-        order,
+        threads: machine.threads,
+        slices: machine.timeslices.map(Slice::from),
+        order: machine.turn_order(),
         live: machine.live_timeslices,
-        running,
+        running: machine.running,
     }
 }
 

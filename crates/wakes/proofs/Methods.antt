@@ -11,7 +11,7 @@ use Rattle.rules.specs.Lists.{AllRanged}
 use Rattle.wakes.proofs.EitherWay as either_way
 use Rattle.wakes.proofs.AnyOrder as any_order
 use Rattle.dispatcher.specs.declared.Machine.{Machine}
-use Rattle.dispatcher.specs.declared.Answered.{Answered}
+use Rattle.dispatcher.specs.Promise.{Answered}
 use Rattle.dispatcher.specs.Shown.{shown, sound_machine}
 use Rattle.dispatcher.proofs.Stored.{sound_shown}
 use Rattle.dispatcher.proofs.Runs.{Runs, last_of, ran, same_last}

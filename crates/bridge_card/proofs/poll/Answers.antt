@@ -1,45 +1,31 @@
 -- No block, no line, an accepted wake, a refused one.
-use native.Mathlib.Omega.{arith}
-use mathlib.Core.Path.{sym, ap, subst}
-use lib.ListN.{set}
-use Rattle.dispatcher.specs.Shown.{shown, sound_machine}
-use Rattle.bridge_card.specs.Promises.{Polls}
-use Rattle.bridge_card.specs.Card.{line_cleared}
-use Rattle.bridge_card.proofs.Polling.{no_line, a_line, polled_20, polled_22, poll_refused, poll_accepted, poll_held}
+use mathlib.Core.Path.{◌≡◌}
+use mathlib.Core.Bool.{true, false}
+use Rattle.std.proofs.Common.{rules}
+use Rattle.std.specs.Prelude.{is_ok}
+use Rattle.bridge_card.proofs.Polling.{poll_20, poll_22, poll_held, poll_accepted, one_of_eight}
 use Rattle.bridge_card.proofs.poll.Goals as goal
 
-pub returns-then-block-ne12 : goal.returns-then-block-ne12
-returns-then-block-ne12 c =
-    poll_refused c.args.block.now c.args.machine 20
-    (polled_20 (sound_machine c.args.machine) c.args.block.now (shown c.args.machine) c.if-block-ne12.true)
+pub returns-in-Err : goal.returns-in-Err
+returns-in-Err c = poll_20 c.args.block.now c.args.machine c.in-Err.refusal c.in-Err.ensures
 
-pub returns-then-line-eq-NO_LINE : goal.returns-then-line-eq-NO_LINE
-returns-then-line-eq-NO_LINE c =
-    let none_there = no_line c.args.block.now c.line_to_take-line.result c.line_to_take-line.ensures c.if-line-eq-NO_LINE.true in
-    poll_refused c.args.block.now c.args.machine 22
-    (polled_22 (sound_machine c.args.machine) c.args.block.now (shown c.args.machine) c.if-block-ne12.false none_there)
+pub returns-in_default-line_to_take : goal.returns-in_default-line_to_take
+returns-in_default-line_to_take c = poll_22 c.args.block.now c.args.machine c.in_default.ensures c.in_default-line_to_take.ensures
 
-pub bounds-block-line : goal.bounds-block-line
-bounds-block-line c =
-    let taken = a_line c.args.block.now c.line_to_take-line.result c.line_to_take-line.ensures c.if-line-eq-NO_LINE.false in
-    omega (arith, taken.1, c.if-block-ne12.false)
+pub thread_of-requires-clause-one_of_eight : goal.thread_of-requires-clause-one_of_eight
+thread_of-requires-clause-one_of_eight c = one_of_eight c.args.block.now c.in-Some.line c.in-Some.ensures
 
 pub without_bit-requires : goal.without_bit-requires
-without_bit-requires c =
-    (a_line c.args.block.now c.line_to_take-line.result c.line_to_take-line.ensures c.if-line-eq-NO_LINE.false).1
+without_bit-requires c = one_of_eight c.args.block.now c.in-Some.line c.in-Some.ensures
 
-pub returns-then-answered-eq0 : goal.returns-then-answered-eq0
-unfolding line_cleared
-returns-then-answered-eq0 c =
-    let taken = a_line c.args.block.now c.line_to_take-line.result c.line_to_take-line.ensures c.if-line-eq-NO_LINE.false in
-    let accepted =
-    poll_accepted c.args.block.now c.args.machine c.line_to_take-line.result c.wake-answered.result c.if-block-ne12.false taken.0
-    c.wake-answered.ensures c.if-answered-eq0.true in
-    subst (λ l. Polls c.args.block.now c.args.machine l c.wake-answered.result)
-    (ap (set c.args.block.now 1) (sym c.without_bit.ensures)) accepted
+pub returns-then-is_ok : goal.returns-then-is_ok
+returns-then-is_ok c =
+    let accepted : is_ok c.wake-woken.result.answer ≡ true = search rules in
+    poll_accepted c.args.block.now c.args.machine c.in_default.ensures c.in-Some.ensures c.thread_of.ensures c.wake-woken.result.answer
+    c.without_bit.result accepted c.wake-woken.ensures c.without_bit.ensures
 
-pub returns-else-answered-eq0 : goal.returns-else-answered-eq0
-returns-else-answered-eq0 c =
-    let taken = a_line c.args.block.now c.line_to_take-line.result c.line_to_take-line.ensures c.if-line-eq-NO_LINE.false in
-    poll_held c.args.block.now c.args.machine c.line_to_take-line.result c.wake-answered.result c.if-block-ne12.false taken.0
-    c.wake-answered.ensures c.if-answered-eq0.false
+pub returns-else-is_ok : goal.returns-else-is_ok
+returns-else-is_ok c =
+    let held : is_ok c.wake-woken.result.answer ≡ false = search rules in
+    poll_held c.args.block.now c.args.machine c.in_default.ensures c.in-Some.ensures c.thread_of.ensures c.wake-woken.result.answer held
+    c.wake-woken.ensures

@@ -1,7 +1,10 @@
 -- The buffer has one byte more than an input that is not refused for its length.
-use lib.ListN.{length}
+use Prim.Native.Nat.{ℕ}
+use native.Mathlib.Omega.{arith}
+use mathlib.Core.Path.{ap}
+use lib.ListN.{length, length-replicate}
 use Rattle.card_sheet.proofs.Room.{enough_for_card}
 use Rattle.card_sheet.proofs.input.Goals as goal
 
 pub returns : goal.returns
-returns c = enough_for_card (length c.zeros.result) c.zeros.ensures
+returns c = enough_for_card (length c.zeros.result) (omega (arith, ap length c.zeros.ensures, length-replicate {A = ℕ} 66559 0))

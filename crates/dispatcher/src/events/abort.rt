@@ -1,49 +1,38 @@
 // Document 01, "Events" and "Refusals, operation by operation": Abort.
-ghost use Rattle.std.specs.Prelude.{◌≡◌, true};
+ghost use Rattle.std.specs.Prelude.{◌≡◌, true, Ok};
 ghost use Rattle.rules.specs.declared.Event.TheVariants.{Abort};
 ghost use Rattle.rules.specs.Events.{dispatch, settle, abort};
 ghost use Rattle.dispatcher.specs.Choosing.{Choosable, Settled};
 ghost use Rattle.dispatcher.specs.Shown.{shown, sound_machine};
-ghost use Rattle.dispatcher.specs.Promise.{Answers};
+ghost use Rattle.dispatcher.specs.Promise.{Answers, answered};
 
-use crate::{Answered, Machine};
+use crate::Machine;
+use rules::Refusal;
 use tables::ends::end_blocked;
-use tables::numbers::index;
 use tables::records::is_linked;
 use tables::threads::aborted;
 use tables::walk::walk;
 
 impl Machine {
     // First the walk from the thread named; then it is Ready, and those that waited at the walk's end are released.
-    pub(crate) fn abort_walks(mut self, n: u8) -> Answered
-        requires { Choosable self 0 }
-        ensures { Settled (settle (abort n (shown self))) result }
+    pub(crate) fn abort_walks(&mut self, n: u8) -> u16
+        requires { Choosable self.old 0 }
+        ensures { Settled (settle (abort n (shown self.old))) (answered self.new (Ok result)) }
     {
-        let threads = self.threads;
-        let lives = self.live_threads;
-        let chain = walk(threads, lives, n);
-        let blocked = end_blocked(threads, chain);
-        let next = aborted(threads, n);
-        self.threads = next;
+        let chain = walk(self.threads, self.live_threads, n);
+        let blocked = end_blocked(self.threads, chain);
+        self.threads = aborted(self.threads, n);
         self.settled_after(chain, blocked)
     }
 
-    pub(crate) fn dispatch_abort(self, n: u8) -> Answered
-        requires { sound_machine self ≡ true }
-        ensures { Answers (dispatch (Abort n) (shown self)) self result }
+    pub(crate) fn dispatch_abort(&mut self, n: u8) -> Result<u16, Refusal>
+        requires { sound_machine self.old ≡ true }
+        ensures { Answers (dispatch (Abort n) (shown self.old)) self.old (answered self.new result) }
     {
-        if 127 < n {
-            return self.answered(2, 0);
+        let thread = self.live_thread(n)?;
+        if !is_linked(thread.hold) {
+            return Err(Refusal::NotLinked);
         }
-        let k = index(n);
-        let thread = self.threads[k];
-        if !thread.live {
-            return self.answered(4, 0);
-        }
-        let hold = thread.hold;
-        if !is_linked(hold) {
-            return self.answered(10, 0);
-        }
-        self.abort_walks(n)
+        Ok(self.abort_walks(n))
     }
 }

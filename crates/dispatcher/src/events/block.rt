@@ -3,30 +3,21 @@ ghost use Rattle.std.specs.Prelude.{◌≡◌, true};
 ghost use Rattle.rules.specs.declared.Event.TheVariants.{Block};
 ghost use Rattle.rules.specs.Events.{dispatch};
 ghost use Rattle.dispatcher.specs.Shown.{shown, sound_machine};
-ghost use Rattle.dispatcher.specs.Promise.{Answers};
+ghost use Rattle.dispatcher.specs.Promise.{Answers, answered};
 
-use crate::{Answered, Machine};
-use rules::{Hold, Running};
+use crate::Machine;
+use rules::{Hold, Refusal, Running};
 use tables::threads::with_hold;
 
 impl Machine {
-    pub(crate) fn dispatch_block(mut self) -> Answered
-        requires { sound_machine self ≡ true }
-        ensures { Answers (dispatch Block (shown self)) self result }
+    pub(crate) fn dispatch_block(&mut self) -> Result<u16, Refusal>
+        requires { sound_machine self.old ≡ true }
+        ensures { Answers (dispatch Block (shown self.old)) self.old (answered self.new result) }
     {
-        let running = self.running;
-        match running {
-            Running::Nothing => self.answered(5, 0),
-            Running::Runs {
-                thread: n,
-                timeslice: _,
-                count: _,
-            } => {
-                let threads = self.threads;
-                let next = with_hold(threads, n, Hold::Blocked);
-                self.threads = next;
-                self.choose(0)
-            }
-        }
+        let Running::Runs { thread, .. } = self.running else {
+            return Err(Refusal::NothingRuns);
+        };
+        self.threads = with_hold(self.threads, thread, Hold::Blocked);
+        Ok(self.choose(0))
     }
 }

@@ -3,31 +3,25 @@ ghost use Rattle.std.specs.Prelude.{◌≡◌, true};
 ghost use Rattle.rules.specs.declared.Event.TheVariants.{Create};
 ghost use Rattle.rules.specs.Events.{dispatch};
 ghost use Rattle.dispatcher.specs.Shown.{shown, sound_machine};
-ghost use Rattle.dispatcher.specs.Promise.{Answers};
+ghost use Rattle.dispatcher.specs.Promise.{Answers, answered};
 
-use crate::{Answered, Machine};
-use rules::Role;
-use tables::numbers::index;
+use crate::Machine;
+use rules::{Refusal, Role};
 use tables::threads::created;
 
 impl Machine {
-    pub(crate) fn dispatch_create(mut self, n: u8, role: Role) -> Answered
-        requires { sound_machine self ≡ true }
-        ensures { Answers (dispatch (Create n role) (shown self)) self result }
+    pub(crate) fn dispatch_create(&mut self, n: u8, role: Role) -> Result<u16, Refusal>
+        requires { sound_machine self.old ≡ true }
+        ensures { Answers (dispatch (Create n role) (shown self.old)) self.old (answered self.new result) }
     {
-        if 127 < n {
-            return self.answered(2, 0);
+        if n > 127 {
+            return Err(Refusal::AboveLimit);
         }
-        let k = index(n);
-        let old = self.threads[k];
-        if old.live {
-            return self.answered(3, 0);
+        if self.threads[usize::from(n)].live {
+            return Err(Refusal::InUse);
         }
-        let threads = self.threads;
-        let next = created(threads, n, role);
-        self.threads = next;
-        let live = self.live_threads;
-        self.live_threads = live + 1;
-        self.answered(0, 0)
+        self.threads = created(self.threads, n, role);
+        self.live_threads += 1;
+        Ok(0)
     }
 }

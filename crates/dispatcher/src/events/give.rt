@@ -3,57 +3,47 @@ ghost use Rattle.std.specs.Prelude.{◌≡◌, true};
 ghost use Rattle.rules.specs.declared.Event.TheVariants.{Give};
 ghost use Rattle.rules.specs.Events.{dispatch};
 ghost use Rattle.dispatcher.specs.Shown.{shown, sound_machine};
-ghost use Rattle.dispatcher.specs.Promise.{Answers};
+ghost use Rattle.dispatcher.specs.Promise.{Answers, answered};
 
-use crate::{Answered, Machine};
+use crate::Machine;
 use neighbours::joining::append;
 use neighbours::reading::is_listed;
-use rules::{Place, Timeslice};
-use tables::numbers::index;
+use rules::{Place, Refusal, Timeslice};
 use timeslices::search::owns_one;
 
 impl Machine {
-    pub(crate) fn dispatch_give(mut self, t: u8, n: u8, priority: u8, quantum: u16) -> Answered
-        requires { sound_machine self ≡ true }
-        ensures { Answers (dispatch (Give t n priority quantum) (shown self)) self result }
+    pub(crate) fn dispatch_give(
+        &mut self,
+        t: u8,
+        n: u8,
+        priority: u8,
+        quantum: u16,
+    ) -> Result<u16, Refusal>
+        requires { sound_machine self.old ≡ true }
+        ensures { Answers (dispatch (Give t n priority quantum) (shown self.old)) self.old (answered self.new result) }
     {
-        if 127 < t {
-            return self.answered(2, 0);
-        }
-        if 127 < n {
-            return self.answered(2, 0);
+        if t > 127 || n > 127 {
+            return Err(Refusal::AboveLimit);
         }
         if is_listed(&self.after, t) {
-            return self.answered(3, 0);
+            return Err(Refusal::InUse);
         }
-        let k = index(n);
-        let thread = self.threads[k];
-        if !thread.live {
-            return self.answered(4, 0);
-        }
-        let timeslices = self.timeslices;
-        let live = self.live_timeslices;
-        if owns_one(timeslices, &self.after, live, n) {
-            return self.answered(13, 0);
+        self.live_thread(n)?;
+        if owns_one(self.timeslices, &self.after, self.live_timeslices, n) {
+            return Err(Refusal::OwnsOne);
         }
         if quantum == 0 {
-            return self.answered(12, 0);
+            return Err(Refusal::NoQuantum);
         }
-        let j = index(t);
-        let new = Timeslice {
+        self.timeslices[usize::from(t)] = Timeslice {
             owner: n,
             priority,
             quantum,
             left: quantum,
             place: Place::Queue,
         };
-        self.timeslices[j] = new;
-        let mut before = self.before;
-        let mut after = self.after;
-        append(&mut before, &mut after, t);
-        self.before = before;
-        self.after = after;
-        self.live_timeslices = live + 1;
-        self.overtaken(t)
+        append(&mut self.before, &mut self.after, t);
+        self.live_timeslices += 1;
+        Ok(self.overtaken(t))
     }
 }

@@ -3,34 +3,22 @@ ghost use Rattle.std.specs.Prelude.{◌≡◌, true};
 ghost use Rattle.rules.specs.declared.Event.TheVariants.{Rank};
 ghost use Rattle.rules.specs.Events.{dispatch};
 ghost use Rattle.dispatcher.specs.Shown.{shown, sound_machine};
-ghost use Rattle.dispatcher.specs.Promise.{Answers};
+ghost use Rattle.dispatcher.specs.Promise.{Answers, answered};
 
-use crate::{Answered, Machine};
+use crate::Machine;
 use neighbours::joining::move_back;
-use neighbours::reading::is_listed;
+use rules::Refusal;
 use timeslices::rank::{detached, with_priority};
 
 impl Machine {
-    pub(crate) fn dispatch_rank(mut self, t: u8, priority: u8) -> Answered
-        requires { sound_machine self ≡ true }
-        ensures { Answers (dispatch (Rank t priority) (shown self)) self result }
+    pub(crate) fn dispatch_rank(&mut self, t: u8, priority: u8) -> Result<u16, Refusal>
+        requires { sound_machine self.old ≡ true }
+        ensures { Answers (dispatch (Rank t priority) (shown self.old)) self.old (answered self.new result) }
     {
-        if 127 < t {
-            return self.answered(2, 0);
-        }
-        if !is_listed(&self.after, t) {
-            return self.answered(4, 0);
-        }
-        let timeslices = self.timeslices;
-        let live = self.live_timeslices;
-        let apart = detached(timeslices, &self.after, live, t);
-        let ranked = with_priority(apart, t, priority);
-        self.timeslices = ranked;
-        let mut before = self.before;
-        let mut after = self.after;
-        move_back(&mut before, &mut after, t);
-        self.before = before;
-        self.after = after;
-        self.choose(0)
+        self.check_listed(t)?;
+        let apart = detached(self.timeslices, &self.after, self.live_timeslices, t);
+        self.timeslices = with_priority(apart, t, priority);
+        move_back(&mut self.before, &mut self.after, t);
+        Ok(self.choose(0))
     }
 }

@@ -3,34 +3,22 @@ ghost use Rattle.std.specs.Prelude.{◌≡◌, true};
 ghost use Rattle.rules.specs.declared.Event.TheVariants.{Wake};
 ghost use Rattle.rules.specs.Events.{dispatch};
 ghost use Rattle.dispatcher.specs.Shown.{shown, sound_machine};
-ghost use Rattle.dispatcher.specs.Promise.{Answers};
+ghost use Rattle.dispatcher.specs.Promise.{Answers, answered};
 
-use crate::{Answered, Machine};
-use rules::Hold;
-use tables::numbers::index;
-use tables::records::is_blocked;
+use crate::Machine;
+use rules::{Hold, Refusal};
 use tables::threads::with_hold;
 
 impl Machine {
-    pub(crate) fn dispatch_wake(mut self, n: u8) -> Answered
-        requires { sound_machine self ≡ true }
-        ensures { Answers (dispatch (Wake n) (shown self)) self result }
+    pub(crate) fn dispatch_wake(&mut self, n: u8) -> Result<u16, Refusal>
+        requires { sound_machine self.old ≡ true }
+        ensures { Answers (dispatch (Wake n) (shown self.old)) self.old (answered self.new result) }
     {
-        if 127 < n {
-            return self.answered(2, 0);
+        let thread = self.live_thread(n)?;
+        if thread.hold != Hold::Blocked {
+            return Err(Refusal::NotBlocked);
         }
-        let k = index(n);
-        let thread = self.threads[k];
-        if !thread.live {
-            return self.answered(4, 0);
-        }
-        let hold = thread.hold;
-        if !is_blocked(hold) {
-            return self.answered(9, 0);
-        }
-        let threads = self.threads;
-        let next = with_hold(threads, n, Hold::Ready);
-        self.threads = next;
-        self.waiters_released(n)
+        self.threads = with_hold(self.threads, n, Hold::Ready);
+        Ok(self.waiters_released(n))
     }
 }

@@ -7,4 +7,4 @@ use Rattle.list_text.proofs.write_sentence.Goals as goal
 pub returns : goal.returns
 returns c =
     let fits = sentence_fits c.args.line c.args.fault c.ranges.line.fits in
-    at_front (omega (arith, fits, c.put_sentence-arg-1.given.0.1)) c.put_sentence.ensures
+    at_front (omega (arith, fits)) c.put_sentence.ensures

@@ -10,7 +10,7 @@ use Rattle.rules.specs.declared.Hold.{Hold}
 use Rattle.rules.specs.declared.Hold.TheVariants.{Ready, Idle, Blocked, Calling, Helping}
 use Rattle.rules.specs.declared.Thread.{Thread}
 use Rattle.rules.specs.declared.Chain.{Chain}
-use Rattle.rules.specs.declared.LastThread.TheVariants.{None}
+use Rattle.std.specs.Prelude.{None}
 use Rattle.rules.specs.State.{hold_at, live_at, live_thread_count}
 use Rattle.rules.specs.Walk.{Link, unlinked, donation, helping, link_of}
 use Rattle.rules.specs.Walk.{no_links, donated, helped, ended, follow, walk_from, walk}

@@ -1,12 +1,14 @@
 -- Nothing, a refused file, a number with which no event is refused: the line of each. Else the shorter file.
 use Prim.Native.Nat.{ℕ, ◌≤◌}
 use native.Mathlib.Omega.{arith}
+use Rattle.std.proofs.Common.{rules}
+use Rattle.std.specs.Prelude.{is_some}
 use mathlib.Core.Path.{◌≡◌, sym, ap, ◌∙◌}
-use mathlib.Core.Bool.{Bool}
+use mathlib.Core.Bool.{Bool, true, false}
 use mathlib.Core.List.{List}
 use lib.ListN.{length, get_or}
-use borrow.Author.Tests.{not-true, not-false}
 use Rattle.rules.specs.EventFile.{Bytes, file_refusal, events_of}
+use Rattle.rules.specs.Key.{file_line}
 use Rattle.rules.specs.Shorten.{refused_from, refused_in, shorter_if, shorter}
 use Rattle.dispatcher.specs.declared.Machine.{Machine}
 use Rattle.dispatcher.specs.Shown.{sound_machine, empty_machine, shown}
@@ -43,45 +45,48 @@ returns-then-input-eq0 c =
     let fits = shorter_fits input (λ i. (c.type_inv.input i).fits) in
     at_front (omega (arith, fits)) (reading (no_input input c.if-input-eq0.true) c.put_file_line.ensures)
 
-pub returns-then-refusal-ne0 : goal.returns-then-refusal-ne0
-returns-then-refusal-ne0 c =
+pub returns-in-Err : goal.returns-in-Err
+returns-in-Err c =
     let input = c.args.input.now in
     let fits = shorter_fits input (λ i. (c.type_inv.input i).fits) in
-    let line = refused_shorter (get_or input 0 0) (file_behind input) c.file_refusal-refusal.result c.file_refusal-refusal.ensures
-    c.if-refusal-ne0.true in
+    let line = ap file_line c.from.ensures
+    ∙ refused_shorter (get_or input 0 0) (file_behind input) c.check_file.ensures c.in-Err.is in
     at_front (omega (arith, fits))
-    (reading (line ∙ ap shorter (number_and_file input c.if-input-eq0.false)) c.put_file_line-then-refusal-ne0.ensures)
+    (reading (line ∙ ap shorter (number_and_file input c.if-input-eq0.false)) c.put_file_line-in-Err.ensures)
 
-pub ask-asked-requires : goal.ask-asked-requires
-ask-asked-requires c =
+pub ask-requires : goal.ask-requires
+ask-requires c =
     let input = c.args.input.now in (
       file_read (file_behind input) (file_narrow input (λ i. (c.type_inv.input i).fits))
-          (sym c.file_refusal-refusal.ensures ∙ c.if-refusal-ne0.false),
+          (sym c.in_default.ensures),
       ap sound_machine c.empty.ensures ∙ empty_machine_sound,
     )
 
-pub returns-then-not-asked : goal.returns-then-not-asked
-returns-then-not-asked c =
+pub returns-then-is_none : goal.returns-then-is_none
+returns-then-is_none c =
     let input = c.args.input.now in
     let narrow : Bytes input = λ i. (c.type_inv.input i).fits in
-    let accepted : file_refusal (file_behind input) ≡ 0 = sym c.file_refusal-refusal.ensures ∙ c.if-refusal-ne0.false in
-    let is = asked input _ c.ask-asked.result.found narrow accepted c.empty.ensures c.ask-asked.ensures.found in
-    let w = written input _ narrow c.if-input-eq0.false accepted (is ∙ not-true _ c.if-not-asked.true) in
-    at_front (omega (arith, w.1)) (reading w.0 c.put_file_line-then-not-asked.ensures)
+    let accepted : file_refusal (file_behind input) ≡ 0 = sym c.in_default.ensures in
+    let tested : is_some c.ask.result ≡ false = search rules in
+    let is = asked input _ (is_some c.ask.result) narrow accepted c.empty.ensures c.ask.ensures.found in
+    let w = written input _ narrow c.if-input-eq0.false accepted (is ∙ tested) in
+    at_front (omega (arith, w.1)) (reading (ap file_line c.from-then-is_none.ensures ∙ w.0) c.put_file_line-then-is_none.ensures)
 
 pub put_shortened-requires : goal.put_shortened-requires
 put_shortened-requires c =
     let input = c.args.input.now in
     let narrow : Bytes input = λ i. (c.type_inv.input i).fits in
-    let accepted : file_refusal (file_behind input) ≡ 0 = sym c.file_refusal-refusal.ensures ∙ c.if-refusal-ne0.false in
-    let is = asked input _ c.ask-asked.result.found narrow accepted c.empty.ensures c.ask-asked.ensures.found in
-    (accepted, is ∙ not-false _ c.if-not-asked.false)
+    let accepted : file_refusal (file_behind input) ≡ 0 = sym c.in_default.ensures in
+    let tested : is_some c.ask.result ≡ true = search rules in
+    let is = asked input _ (is_some c.ask.result) narrow accepted c.empty.ensures c.ask.ensures.found in
+    (accepted, is ∙ tested)
 
 pub returns : goal.returns
 returns c =
     let input = c.args.input.now in
     let narrow : Bytes input = λ i. (c.type_inv.input i).fits in
-    let accepted : file_refusal (file_behind input) ≡ 0 = sym c.file_refusal-refusal.ensures ∙ c.if-refusal-ne0.false in
-    let is = asked input _ c.ask-asked.result.found narrow accepted c.empty.ensures c.ask-asked.ensures.found in
-    let w = written input _ narrow c.if-input-eq0.false accepted (is ∙ not-false _ c.if-not-asked.false) in
+    let accepted : file_refusal (file_behind input) ≡ 0 = sym c.in_default.ensures in
+    let tested : is_some c.ask.result ≡ true = search rules in
+    let is = asked input _ (is_some c.ask.result) narrow accepted c.empty.ensures c.ask.ensures.found in
+    let w = written input _ narrow c.if-input-eq0.false accepted (is ∙ tested) in
     at_front (omega (arith, w.1)) (reading w.0 c.put_shortened.ensures)

@@ -3,19 +3,6 @@ use Rattle.text.proofs.Decimals.{pair_put}
 use native.Mathlib.Omega.{arith}
 use Rattle.text.proofs.put_decimal.Goals as goal
 
-pub put_four_digits-requires : goal.put_four_digits-requires
-put_four_digits-requires c = c.if-n-lt10000.true
-
-pub returns-then-n-lt10000 : goal.returns-then-n-lt10000
-returns-then-n-lt10000 c = c.put_four_digits.ensures
-
-pub put_four_digits-last-requires : goal.put_four_digits-last-requires
-put_four_digits-last-requires c = c.if-rest-lt10000.true
-
 pub returns-then-rest-lt10000 : goal.returns-then-rest-lt10000
 returns-then-rest-lt10000 c =
-    pair_put c.args.n (omega (arith, c.if-n-lt10000.false)) c.put_four_digits-last.ensures
-    c.put_pair.ensures
-
-pub returns : goal.returns
-returns c = c.put_digits.ensures
+    pair_put c.args.n (omega (arith, c.if-n-lt10000.false)) c.put_four_digits-last.ensures c.put_pair.ensures

@@ -6,4 +6,5 @@ use Rattle.text.proofs.put_file_line.Goals as goal
 pub returns : goal.returns
 unfolding file_line bytes
 returns c =
-    c.put_bytes-number.ensures then c.put_decimal-end.ensures then c.put_byte.ensures
+    let number = rw c.from.ensures at c.put_decimal-end.ensures in
+    c.put_bytes-number.ensures then number then c.put_byte.ensures

@@ -2,10 +2,6 @@
 use Rattle.two_engines.proofs.Keys.{agree}
 use Rattle.two_engines.proofs.write_both.Goals as goal
 
-pub returns : goal.returns
-returns c =
-    record {
-      at_front = (c.write_key-first.ensures, c.write_plain_key-second.ensures);
-      agree =
-          agree c.args.file.now (λ i. (c.type_inv.file i).fits) _ _ _ _ _ _ c.write_key-first.ensures c.write_plain_key-second.ensures;
-    }
+pub returns-clause-agree : goal.returns-clause-agree
+returns-clause-agree c =
+    agree c.args.file.now (λ i. (c.type_inv.file i).fits) _ _ _ _ _ _ c.write_key-first.ensures c.write_plain_key-second.ensures

@@ -1,30 +1,26 @@
 -- By its op.
+use Rattle.std.proofs.Common.{rules}
 use Rattle.card_sheet.proofs.Obeying.{obeys_read, obeys_write, obeys_raise, obeys_poll, obeys_run}
 use Rattle.card_sheet.proofs.commands.obey.Goals as goal
 
-pub returns-then-command-eq0 : goal.returns-then-command-eq0
-returns-then-command-eq0 c =
-    obeys_read c.requires c.args.block.now c.args.command c.if-command-eq0.true c.read_register-reading.ensures
+pub returns-in-0 : goal.returns-in-0
+returns-in-0 c =
+    obeys_read c.requires c.args.block.now c.args.command (search rules) c.read_register-reading.result c.in-0.is
+    c.read_register-reading.ensures (search rules) c.unwrap_or.ensures
 
-pub returns-then-command-eq1 : goal.returns-then-command-eq1
-returns-then-command-eq1 c =
-    obeys_write c.requires c.args.block.now c.args.command c.if-command-eq0.false c.if-command-eq1.true
-    c.write_register-refusal.ensures
+pub returns-in-1 : goal.returns-in-1
+returns-in-1 c =
+    obeys_write c.requires c.args.block.now c.args.command (search rules) c.in-1.is c.write_register.ensures (search rules)
 
-pub returns-then-command-eq2 : goal.returns-then-command-eq2
-returns-then-command-eq2 c =
-    obeys_raise c.requires c.args.block.now c.args.command c.if-command-eq0.false c.if-command-eq1.false c.if-command-eq2.true
-    c.raise_line-refusal.ensures
+pub returns-in-2 : goal.returns-in-2
+returns-in-2 c =
+    obeys_raise c.requires c.args.block.now c.args.command (search rules) c.in-2.is c.raise_line.ensures (search rules)
 
-pub returns-then-command-eq3 : goal.returns-then-command-eq3
-returns-then-command-eq3 c =
-    obeys_poll c.requires c.args.block.now c.args.command c.if-command-eq0.false c.if-command-eq1.false c.if-command-eq2.false
-    c.if-command-eq3.true c.poll-answered.ensures
+pub returns-in-3 : goal.returns-in-3
+returns-in-3 c =
+    obeys_poll c.requires c.args.block.now c.args.command (search rules) c.poll-polled.ensures (search rules) (search rules)
 
-pub run_events-ran-requires : goal.run_events-ran-requires
-run_events-ran-requires c = c.requires
-
-pub returns : goal.returns
-returns c =
-    obeys_run c.requires c.args.block.now c.args.command c.if-command-eq0.false c.if-command-eq1.false c.if-command-eq2.false
-    c.if-command-eq3.false c.run_events-ran.ensures
+pub returns-in_default : goal.returns-in_default
+returns-in_default c =
+    obeys_run c.requires c.args.block.now c.args.command (search rules) (search rules) (search rules) (search rules)
+    c.run_events-ran.ensures

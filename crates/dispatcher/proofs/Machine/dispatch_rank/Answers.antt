@@ -1,48 +1,42 @@
 -- Each refusal is the first that fits; past them the timeslice is detached, takes the priority and goes to the back, and a choice follows.
-use mathlib.Core.Path.{◌≡◌, refl}
-use mathlib.Core.Bool.{true, false}
-use native.Mathlib.Omega.{arith}
-use borrow.Author.Tests.{lt-ltb, le-ltb, not-false}
+use mathlib.Core.Path.{refl}
+use Rattle.std.proofs.lemmas.Result.{err_from_is_err_and}
 use Rattle.rules.specs.declared.Event.TheVariants.{Rank}
-use Rattle.rules.specs.Tests.{member}
 use Rattle.rules.specs.Events.{rank}
 use Rattle.dispatcher.specs.Shown.{shown}
-use Rattle.dispatcher.proofs.Stored.{sound_stored, turns_linked, says_listed}
+use Rattle.dispatcher.proofs.Stored.{sound_stored, turns_linked}
 use Rattle.neighbours.specs.Sides.{sides}
 use Rattle.dispatcher.proofs.Answering.{refuse, accept, chosen}
+use Rattle.dispatcher.proofs.Refusing.{listed_there, none_listed}
 use Rattle.dispatcher.proofs.TimesliceChanges.{moved_to, turned_exact, turned_shown, rank_shown}
 use Rattle.dispatcher.proofs.ThreadChanges.{choosable}
 use Rattle.dispatcher.proofs.Machine.dispatch_rank.Goals as goal
 
-pub returns-then-t-gt127 : goal.returns-then-t-gt127
-returns-then-t-gt127 c = refuse _ _ c.answered.ensures (rw (lt-ltb _ _ c.if-t-gt127.true) refl)
-
-pub returns-then-not-is_listed : goal.returns-then-not-is_listed
-returns-then-not-is_listed c =
-    let ok = sound_stored c.args.self c.requires in
-    let out = says_listed c.args.self ok _ _ false (omega (arith, c.if-t-gt127.false)) c.is_listed.ensures
-    (c.if-not-is_listed.true) in
-    refuse _ _ c.answered-then-not-is_listed.ensures (rw (le-ltb _ _ c.if-t-gt127.false, out) refl)
+pub returns-in_err-check_listed : goal.returns-in_err-check_listed
+returns-in_err-check_listed c =
+    let p = err_from_is_err_and c.from_residual.result c.from_residual.ensures.1 in
+    rw (p.1, p.2)
+    (refuse _ _ _ (none_listed c.args.self.now (sound_stored _ c.requires) _ _ _ _ c.check_listed.ensures c.in_err-check_listed.was))
 
 pub choose-requires : goal.choose-requires
 choose-requires c =
-    let ok = sound_stored c.args.self c.requires in
-    let listed = (let listed_here' : member c.args.t (shown c.args.self).order ≡ true = says_listed c.args.self (sound_stored c.args.self c.requires) _ _ true (omega (arith, c.if-t-gt127.false)) c.is_listed.ensures
-    (not-false _ c.if-not-is_listed.false-raw) in listed_here') in
-    choosable _ (turned_exact c.args.self _ _ _ ok listed (c.move_back.ensures.turned (shown c.args.self).order (turns_linked c.args.self ok) listed))
+    let m = c.args.self.now in
+    let ok = sound_stored m c.requires in
+    let listed = (listed_there m ok _ _ _ c.check_listed.ensures c.in_ok-check_listed.was).1 in
+    choosable _ (turned_exact m _ _ _ ok listed (c.move_back.ensures.turned (shown m).order (turns_linked m ok) listed))
 
 pub returns : goal.returns
 unfolding rank
 returns c =
-    let ok = sound_stored c.args.self c.requires in
-    let listed = (let listed_here' : member c.args.t (shown c.args.self).order ≡ true = says_listed c.args.self (sound_stored c.args.self c.requires) _ _ true (omega (arith, c.if-t-gt127.false)) c.is_listed.ensures
-    (not-false _ c.if-not-is_listed.false-raw) in listed_here') in
-    let back = c.move_back.ensures.turned (shown c.args.self).order (turns_linked c.args.self ok) listed in
+    let m = c.args.self.now in
+    let ok = sound_stored m c.requires in
+    let there = listed_there m ok _ _ _ c.check_listed.ensures c.in_ok-check_listed.was in
+    let back = c.move_back.ensures.turned (shown m).order (turns_linked m ok) there.1 in
     let turned = sides c.move_back.new.before c.move_back.new.after in
-    accept (Rank c.args.t c.args.priority) c.args.self c.requires
-    (rw (le-ltb _ _ c.if-t-gt127.false, listed) refl)
-    (rank c.args.t c.args.priority (shown c.args.self)) refl _
-    (chosen (moved_to c.args.self.threads c.with_priority-ranked.result turned c.args.self) 0 _ _
-    (rank_shown c.args.self c.args.t c.args.priority _ _ turned c.detached-apart.ensures c.with_priority-ranked.ensures
-    (turned_shown c.args.self c.args.t turned c.args.self.timeslices ok listed back))
+    accept (Rank c.args.t c.args.priority) m c.requires
+    (rw (there.0, there.1) refl)
+    (rank c.args.t c.args.priority (shown m)) refl _
+    (chosen (moved_to m.threads c.with_priority-self.result turned m) 0 _ _
+    (rank_shown m c.args.t c.args.priority _ _ turned c.detached-apart.ensures c.with_priority-self.ensures
+    (turned_shown m c.args.t turned m.timeslices ok there.1 back))
     c.choose.ensures)

@@ -1,31 +1,20 @@
 -- Each refusal is the first that fits; past them the thread is live, and the walk begins.
-use mathlib.Core.Path.{refl}
-use borrow.Author.Tests.{not-true, lt-ltb, le-ltb, not-false}
-use Rattle.rules.specs.declared.Thread.{Thread}
+use mathlib.Core.Path.{refl, sym, ◌∙◌}
+use Rattle.std.proofs.lemmas.Result.{err_from_is_err_and}
 use Rattle.rules.specs.declared.Event.TheVariants.{Remove}
 use Rattle.rules.specs.Events.{remove}
 use Rattle.dispatcher.specs.Shown.{shown}
 use Rattle.dispatcher.proofs.Answering.{refuse, accept}
-use Rattle.dispatcher.proofs.ThreadChanges.{read}
+use Rattle.dispatcher.proofs.Refusing.{found, none_live}
 use Rattle.dispatcher.proofs.Machine.dispatch_remove.Goals as goal
 
-pub returns-then-n-gt127 : goal.returns-then-n-gt127
-returns-then-n-gt127 c = refuse _ _ c.answered.ensures (rw (lt-ltb _ _ c.if-n-gt127.true) refl)
-
-pub returns-then-not-thread : goal.returns-then-not-thread
-returns-then-not-thread c =
-    let dead = read (λ (t : Thread). t.live) c.args.self.threads _ _ _ c.index-k.ensures (not-true _ c.if-not-thread.true) in
-    refuse _ _ c.answered-then-not-thread.ensures (rw (le-ltb _ _ c.if-n-gt127.false, dead) refl)
-
-pub remove_walks-requires : goal.remove_walks-requires
-remove_walks-requires c =
-    record {
-      sound = c.requires;
-      live = read (λ (t : Thread). t.live) c.args.self.threads _ _ _ c.index-k.ensures (not-false _ c.if-not-thread.false);
-    }
+pub returns-in_err-live_thread : goal.returns-in_err-live_thread
+returns-in_err-live_thread c =
+    let p = err_from_is_err_and c.from_residual.result c.from_residual.ensures.1 in
+    rw (p.1, p.2) (refuse _ _ _ (none_live c.args.n c.args.self.now.threads _ _ (sym c.live_thread.ensures ∙ c.in_err-live_thread.was)))
 
 pub returns : goal.returns
 returns c =
-    let live = read (λ (t : Thread). t.live) c.args.self.threads _ _ _ c.index-k.ensures (not-false _ c.if-not-thread.false) in
-    accept (Remove c.args.n) c.args.self c.requires (rw (le-ltb _ _ c.if-n-gt127.false, live) refl) (remove c.args.n (shown c.args.self)) refl _
-    c.remove_walks.ensures
+    let m = c.args.self.now in
+    let f = found c.args.n m.threads _ (sym c.live_thread.ensures ∙ c.in_ok-live_thread.was) in
+    accept (Remove c.args.n) m c.requires (rw (f.within, f.live) refl) (remove c.args.n (shown m)) refl _ c.remove_walks.ensures

@@ -1,4 +1,4 @@
--- The thread owns nothing, or what it owns is listed, and struck out.
+-- What stands there afterwards shows the state with its own timeslice struck out, if it has one: it is listed.
 use mathlib.Core.Path.{◌≡◌, refl, sym, ◌∙◌, ap, subst}
 use mathlib.Core.Option.{Option, none, some}
 use Prim.Native.Nat.{ℕ}
@@ -13,25 +13,28 @@ use Rattle.dispatcher.proofs.Stored.{sound_stored, sound_shown}
 use Rattle.dispatcher.proofs.ThreadChanges.{choosable}
 use Rattle.dispatcher.proofs.Machine.own_struck_out.Goals as goal
 
-pub struck_out-requires : goal.struck_out-requires
-struck_out-requires c =
-    let is : own_of (shown c.args.self).slices c.args.n (shown c.args.self).order ≡ some c.in-At.t =
-    sym c.own-found.ensures ∙ ap sought_of c.in-At.is in
-    let listed = own_listed (shown c.args.self).slices c.args.n (shown c.args.self).order _ is in
-    record {
-      choosable = choosable c.args.self (sound_stored c.args.self c.requires);
-      in_range = (sound_of (shown c.args.self) (sound_shown c.args.self c.requires)).mid.shape.turns.small _ listed;
-      listed = listed;
-    }
+pub struck_out-requires-clause-choosable : goal.struck_out-requires-clause-choosable
+struck_out-requires-clause-choosable c = choosable c.args.self.now (sound_stored c.args.self.now c.requires)
 
-pub returns-in-Nothing : goal.returns-in-Nothing
-returns-in-Nothing c =
-    let is : none ≡ own_of (shown c.args.self).slices c.args.n (shown c.args.self).order =
-    ap sought_of (sym c.in-Nothing.is) ∙ c.own-found.ensures in
-    subst (λ (o : Option ℕ). Shows (strike_out o (shown c.args.self)) c.args.self) is (record { state = refl; exact = sound_stored c.args.self c.requires })
+pub struck_out-requires-clause-in_range : goal.struck_out-requires-clause-in_range
+struck_out-requires-clause-in_range c =
+    let m = c.args.self.now in
+    let listed = own_listed (shown m).slices c.args.n (shown m).order _ (sym c.own.ensures ∙ ap sought_of c.in-Some.is) in
+    (sound_of (shown m) (sound_shown m c.requires)).mid.shape.turns.small _ listed
 
-pub returns-in-At : goal.returns-in-At
-returns-in-At c =
-    let is : some c.in-At.t ≡ own_of (shown c.args.self).slices c.args.n (shown c.args.self).order =
-    ap sought_of (sym c.in-At.is) ∙ c.own-found.ensures in
-    subst (λ (o : Option ℕ). Shows (strike_out o (shown c.args.self)) c.struck_out.result) is c.struck_out.ensures
+pub struck_out-requires-clause-listed : goal.struck_out-requires-clause-listed
+struck_out-requires-clause-listed c =
+    let m = c.args.self.now in
+    own_listed (shown m).slices c.args.n (shown m).order _ (sym c.own.ensures ∙ ap sought_of c.in-Some.is)
+
+pub returns-in_default : goal.returns-in_default
+returns-in_default c =
+    let m = c.args.self.now in
+    let is : none ≡ own_of (shown m).slices c.args.n (shown m).order = ap sought_of (sym c.in_default.is) ∙ c.own.ensures in
+    subst (λ (o : Option ℕ). Shows (strike_out o (shown m)) m) is (record { state = refl; exact = sound_stored m c.requires })
+
+pub returns-in-Some : goal.returns-in-Some
+returns-in-Some c =
+    let m = c.args.self.now in
+    let is : some c.in-Some.t ≡ own_of (shown m).slices c.args.n (shown m).order = ap sought_of (sym c.in-Some.is) ∙ c.own.ensures in
+    subst (λ (o : Option ℕ). Shows (strike_out o (shown m)) c.struck_out.new.self) is c.struck_out.ensures

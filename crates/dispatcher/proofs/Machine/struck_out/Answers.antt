@@ -1,24 +1,18 @@
 -- One timeslice less is listed, and the followers are released.
-use native.Mathlib.Omega.{arith}
 use Rattle.dispatcher.specs.Shown.{shown}
 use Rattle.dispatcher.proofs.Stored.{turns_linked}
 use Rattle.dispatcher.proofs.TimesliceChanges.{some_live, fewer_exact, struck_shown}
 use Rattle.dispatcher.proofs.Machine.struck_out.Goals as goal
 
-pub offset_bounds-self-k : goal.offset_bounds-self-k
-offset_bounds-self-k c = omega (arith, c.index-k.ensures, c.requires.in_range)
-
-pub bounds-self-k : goal.bounds-self-k
-bounds-self-k c = omega (arith, c.index-k.ensures, c.requires.in_range)
-
-pub overflow_sub-fewer : goal.overflow_sub-fewer
-overflow_sub-fewer c =
-    some_live c.args.self c.args.t c.requires.choosable.exact c.requires.listed
+pub overflow_sub-self : goal.overflow_sub-self
+overflow_sub-self c = some_live c.args.self.now c.args.t c.requires.choosable.exact c.requires.listed
 
 pub returns : goal.returns
 returns c =
-    let out = c.strike_out.ensures.turned (shown c.args.self).order (turns_linked c.args.self c.requires.choosable.exact) c.requires.listed in
+    let m = c.args.self.now in
+    let ok = c.requires.choosable.exact in
+    let out = c.strike_out.ensures.turned (shown m).order (turns_linked m ok) c.requires.listed in
     record {
-      state = struck_shown c.args.self c.args.t c.requires.choosable.exact c.requires.listed _ out _ c.index-k.ensures _ c.release-free.ensures;
-      exact = fewer_exact c.args.self c.args.t c.requires.choosable.exact c.requires.listed _ out _;
+      state = struck_shown m c.args.t ok c.requires.listed _ out _ c.from.ensures _ c.release-self.ensures;
+      exact = fewer_exact m c.args.t ok c.requires.listed _ out _;
     }

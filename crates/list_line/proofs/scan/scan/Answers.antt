@@ -1,38 +1,22 @@
--- The loop's invariant: from the place reached on the scan ends where it ends from the first place on.
-use mathlib.Core.Path.{refl, sym, ◌∙◌}
-use Rattle.list_line.specs.Scanning.{stops}
-use Rattle.list_line.proofs.Scans.{stops_here, goes_on, is_over}
-use native.Mathlib.Omega.{arith}
+-- The first byte that passes, or none, by std's law of `position`.
+use mathlib.Core.Path.{ap, ◌∙◌}
+use Prim.Native.Nat.{◌+◌}
+use Rattle.std.proofs.Common.{tests, rules}
+use Rattle.std.proofs.lemmas.Iterator.{YieldsList-from_slice}
+use Rattle.std.proofs.lemmas.Iterator.Adapters.{YieldsList-from_skip}
+use Rattle.std.proofs.lemmas.Iterator.Search.{position_from_yields_List}
+use Rattle.list_line.proofs.Scans.{found, not_found}
 use Rattle.list_line.proofs.scan.scan.Goals as goal
 
-pub loop-i-init : goal.loop-i-init
-loop-i-init c = refl
-
-pub returns-then-stops_at : goal.returns-then-stops_at
-returns-then-stops_at c =
-    let test = stops c.args.until in
-    omega (
-      arith,
-      c.loop-i.invariant,
-      stops_here test c.args.text.now c.loop-i.i c.loop-i-test.true
-          (sym c.stops_at.ensures ∙ c.if-stops_at.true),
-    )
-
-pub loop-i-preserved : goal.loop-i-preserved
-loop-i-preserved c =
-    let test = stops c.args.until in
-    omega (
-      arith,
-      c.loop-i.invariant,
-      goes_on test c.args.text.now c.loop-i.i c.loop-i-test.true
-          (sym c.stops_at.ensures ∙ c.if-stops_at.false),
-    )
+pub returns-in-Some : goal.returns-in-Some
+returns-in-Some g c = λ test computes.
+    ap (λ n. c.args.at + n) (found test c.args.text.now c.args.at c.in-Some.n c.in-Some.is
+    (position_from_yields_List test _ _ _ c.position.ensures.ran
+    (YieldsList-from_skip c.args.at (YieldsList-from_slice c.args.text.now cc) cc) (λ x b q k. search (rules, tests, computes))))
 
 pub returns : goal.returns
-returns c =
-    omega (
-      arith,
-      c.loop-i.invariant,
-      is_over (stops c.args.until) c.args.text.now c.loop-i.i
-          c.loop-i-test.false,
-    )
+returns g c = λ test computes.
+    c.max.ensures
+    ∙ not_found test c.args.text.now c.args.at c.in-None.is
+    (position_from_yields_List test _ _ _ c.position.ensures.ran
+    (YieldsList-from_skip c.args.at (YieldsList-from_slice c.args.text.now cc) cc) (λ x b q k. search (rules, tests, computes)))

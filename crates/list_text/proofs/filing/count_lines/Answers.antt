@@ -1,47 +1,22 @@
 -- The loop's invariant: the lines that are left are counted as the whole text is.
-use Rattle.list_text.proofs.Counting.{counting_begins, line_within, counted_wrong, counted_all, counted_on}
-use native.Mathlib.Omega.{arith}
+use Rattle.std.proofs.Common.{rules, tests}
+use Rattle.std.proofs.lemmas.Iterator.Splits.{YieldsList-from_slice_split}
+use Rattle.list_line.specs.Reading.{line_feed}
+use Rattle.list_text.proofs.Counting.{counting_begins, counted_all, counted_wrong, counted_on_line}
 use Rattle.list_text.proofs.filing.count_lines.Goals as goal
 
-pub loop-count-init : goal.loop-count-init
-loop-count-init c = counting_begins c.args.text.now
+pub loop-line-init : goal.loop-line-init
+loop-line-init c =
+    counting_begins (YieldsList-from_slice_split _ line_feed c.args.text.now (cc) (cc) (cc) (λ x b q k. search (rules, tests))) c.requires
 
-pub slice_bounds-line_of-count : goal.slice_bounds-line_of-count
-slice_bounds-line_of-count c = omega (
-  arith,
-  line_within _ c.loop-count.at c.scan-end.result c.loop-count.invariant.inside
-      c.scan-end.ensures,
-)
+pub returns-in-Err : goal.returns-in-Err
+returns-in-Err c =
+    counted_wrong c.loop-line.invariant c.next.new.self c.next.result c.next.ensures.steps c.in-Some.is c.in-Err.ensures.counts
 
-pub slice_bounds-line_of-end : goal.slice_bounds-line_of-end
-slice_bounds-line_of-end c = (line_within _ c.loop-count.at c.scan-end.result c.loop-count.invariant.inside c.scan-end.ensures).1
+pub loop-line-preserved : goal.loop-line-preserved
+loop-line-preserved c =
+    counted_on_line c.loop-line.invariant c.next.new.self c.next.result c.next.ensures.steps c.in-Some.is c.in-Ok.ensures.counts
+    c.in-Ok.ensures.bounded
 
-pub count_line-count-requires : goal.count_line-count-requires
-count_line-count-requires c = c.loop-count.invariant.small
-
-pub returns-then-count : goal.returns-then-count
-returns-then-count c =
-    counted_wrong c.loop-count.invariant c.scan-end.ensures c.line_of-read.ensures c.count_line-count.ensures.counts
-    c.if-count.true
-
-pub returns-then-end-text : goal.returns-then-end-text
-returns-then-end-text c =
-    counted_all c.loop-count.invariant c.scan-end.ensures c.line_of-read.ensures c.count_line-count.ensures.counts
-    c.if-count.false
-    c.if-end-text.true
-
-pub overflow_add-line : goal.overflow_add-line
-overflow_add-line c =
-    let within = line_within _ c.loop-count.at c.scan-end.result c.loop-count.invariant.inside c.scan-end.ensures in
-    record { fits = omega (arith, c.loop-count.invariant.few, within, c.if-end-text.false, c.requires) }
-
-pub loop-count-smaller : goal.loop-count-smaller
-loop-count-smaller c =
-    let within = line_within _ c.loop-count.at c.scan-end.result c.loop-count.invariant.inside c.scan-end.ensures in
-    omega (arith, within, c.if-end-text.false)
-
-pub loop-count-preserved : goal.loop-count-preserved
-loop-count-preserved c =
-    counted_on c.loop-count.invariant c.scan-end.ensures c.line_of-read.ensures c.count_line-count.ensures.counts
-    c.if-count.false
-    c.if-end-text.false c.count_line-count.ensures.bounded
+pub returns : goal.returns
+returns c = counted_all c.loop-line.invariant c.next.new.self c.next.result c.next.ensures.steps c.in-None.is

@@ -4,4 +4,4 @@ use Rattle.list_text.proofs.records.put_charge.Goals as goal
 
 pub returns : goal.returns
 returns c =
-    c.put_two-operand.ensures then c.put_word.ensures
+    c.put_bytes-operand.ensures then c.put_word.ensures

@@ -4,4 +4,4 @@ use Rattle.list_text.proofs.records.put_give.Goals as goal
 
 pub returns : goal.returns
 returns c =
-    c.put_three-second.ensures then c.put_two-fourth.ensures then c.put_word.ensures
+    c.put_bytes-last.ensures then c.put_word.ensures

@@ -7,5 +7,5 @@ use Rattle.list_writer.proofs.writer.put_rank.Goals as goal
 pub returns : goal.returns
 unfolding bytes
 returns c =
-    reading (rank_in_parts c.args.timeslice c.args.priority)
+    reading (rank_in_parts c.from.ensures c.from-2.ensures)
     (c.put_named-second.ensures then c.put_named.ensures)

@@ -1,25 +1,20 @@
 -- By its op.
+use Rattle.std.proofs.Common.{rules}
 use Rattle.orders_sheet.proofs.Obeying.{obeys_abort, obeys_withdraw, obeys_take, obeys_run}
 use Rattle.orders_sheet.proofs.commands.obey.Goals as goal
 
-pub returns-then-command-eq0 : goal.returns-then-command-eq0
-returns-then-command-eq0 c =
-    obeys_abort c.requires c.args.store c.args.command c.if-command-eq0.true c.give_abort-given.ensures
+pub returns-in-0 : goal.returns-in-0
+returns-in-0 c =
+    obeys_abort c.requires c.args.store.now c.args.command (search rules) (search rules) c.in-0.is c.give_abort.ensures
 
-pub returns-then-command-eq1 : goal.returns-then-command-eq1
-returns-then-command-eq1 c =
-    obeys_withdraw c.requires c.args.store c.args.command c.if-command-eq0.false c.if-command-eq1.true
-    c.give_withdraw-given.ensures
+pub returns-in-1 : goal.returns-in-1
+returns-in-1 c =
+    obeys_withdraw c.requires c.args.store.now c.args.command (search rules) (search rules) c.in-1.is c.give_withdraw.ensures
 
-pub returns-then-command-eq2 : goal.returns-then-command-eq2
-returns-then-command-eq2 c =
-    obeys_take c.requires c.args.store c.args.command c.if-command-eq0.false c.if-command-eq1.false c.if-command-eq2.true
-    c.take-taken.ensures
+pub returns-in-2 : goal.returns-in-2
+returns-in-2 c =
+    obeys_take c.requires c.args.store.now c.args.command c.in-2.is c.take-taken.ensures (search rules) (search rules)
 
-pub run_events-ran-requires : goal.run_events-ran-requires
-run_events-ran-requires c = c.requires
-
-pub returns : goal.returns
-returns c =
-    obeys_run c.requires c.args.store c.args.command c.if-command-eq0.false c.if-command-eq1.false c.if-command-eq2.false
-    c.run_events-ran.ensures
+pub returns-in_default : goal.returns-in_default
+returns-in_default c =
+    obeys_run c.requires c.args.store.now c.args.command (search rules) (search rules) (search rules) c.run_events-ran.ensures

@@ -1,7 +1,5 @@
 -- The lines so far and those of the events that are left make the whole; where no event is found, none are left.
-use mathlib.Core.Path.{sym, ap, ◌∙◌}
 use native.Mathlib.Omega.{arith}
-use Rattle.event_file.specs.Answers.{shown_found}
 use Rattle.event_file.proofs.Steps.{not_record}
 use Rattle.plain_sheet.proofs.Printing.{begin, printed, further, done}
 use Rattle.plain_sheet.proofs.lines.put_lines.Goals as goal
@@ -16,16 +14,14 @@ returns-in_default c =
 
 pub overflow_add-number : goal.overflow_add-number
 overflow_add-number c =
-    let found = sym (ap shown_found c.in-Record.is) ∙ c.step-read.ensures.0 in
-    let on = further c.loop-event.invariant found c.step-read.ensures.1 c.offer-answered.ensures in
+    let on = further c.loop-event.invariant c.in-Record.is c.step-read.ensures.0 c.step-read.ensures.1 c.offer-answer.ensures in
     record { fits = omega (arith, c.loop-event.invariant.few, on) }
 
 pub loop-event-smaller : goal.loop-event-smaller
 loop-event-smaller c =
-    let found = sym (ap shown_found c.in-Record.is) ∙ c.step-read.ensures.0 in
-    omega (arith, further c.loop-event.invariant found c.step-read.ensures.1 c.offer-answered.ensures)
+    omega (arith, further c.loop-event.invariant c.in-Record.is c.step-read.ensures.0 c.step-read.ensures.1 c.offer-answer.ensures)
 
 pub loop-event-preserved : goal.loop-event-preserved
 loop-event-preserved c =
-    let found = sym (ap shown_found c.in-Record.is) ∙ c.step-read.ensures.0 in
-    printed c.loop-event.invariant found c.step-read.ensures.1 c.offer-answered.ensures c.put_line-at.ensures
+    printed c.loop-event.invariant c.in-Record.is c.step-read.ensures.0 c.step-read.ensures.1 c.offer-answer.ensures
+    (rw c.number_in.ensures at c.put_line-at.ensures)

@@ -1,26 +1,33 @@
--- 1 is tried, and then what follows the last of every row.
-use native.Mathlib.Omega.{arith}
-use Rattle.ranking_table.proofs.Passing.{none_passed}
-use Rattle.ranking_table.proofs.Trying.{gap_at_1, gap_tried, gap_found, ends_some}
+-- The chain, as a list function, tries 1, and what follows the last of every row.
+use mathlib.Core.Path.{sym, ◌∙◌}
+use Prim.Native.Nat.{◌≤◌}
+use Rattle.std.proofs.Common.{rules, Some}
+use Rattle.std.proofs.iter.Serving.{serving}
+use Rattle.std.specs.List.{All}
+use Rattle.ranking_table.specs.declared.Row.{Row}
+use Rattle.std.proofs.lemmas.Iterator.{YieldsList-from_slice, YieldsList-from_map}
+use Rattle.std.proofs.lemmas.Iterator.Adapters.{option_map_id, YieldsList-from_once}
+use Rattle.std.proofs.lemmas.Iterator.Consumers.{YieldsList-at, YieldsList-from_filter, YieldsList-from_chain, min_from_yields_List}
+use borrow.Author.Tests.{tests}
+use Rattle.ranking_table.proofs.Trying.{ends_inside, after, near_gap, gap_found}
 use Rattle.ranking_table.proofs.faults.smallest_gap.Goals as goal
 
-pub better_gap-best-requires : goal.better_gap-best-requires
-better_gap-best-requires c = c.requires.0
-
-pub loop-k-init : goal.loop-k-init
-loop-k-init c =
-    gap_at_1 (none_passed _ _ c.well_formed.0.1.0.1 c.requires.0) c.requires.1 c.better_gap-best.ensures
-
-pub overflow_add-row : goal.overflow_add-row
-overflow_add-row c =
-    omega (arith, ends_some c.loop-k-test.true c.loop-k.invariant.passed c.loop-k.invariant.good)
-
-pub better_gap-best-requires-in-loop-k : goal.better_gap-best-requires-in-loop-k
-better_gap-best-requires-in-loop-k c = c.loop-k.invariant.passed.room
-
-pub loop-k-preserved : goal.loop-k-preserved
-loop-k-preserved c =
-    gap_tried c.loop-k.invariant c.loop-k-test.true c.better_gap-best-in-loop-k.ensures
+pub min-requires-clause-can : goal.min-requires-clause-can
+min-requires-clause-can c =
+    let inside : All (λ (row : Row). row.last ≤ 60000) c.args.rows.now = ends_inside c.args.rows.now c.requires in
+    grind serving
 
 pub returns : goal.returns
-returns c = gap_found c.loop-k.invariant c.loop-k-test.false
+returns c =
+    let rows = c.args.rows.now in
+    let least =
+    min_from_yields_List _ c.min.result c.min.ensures.ran
+    (YieldsList-from_filter _ (near_gap rows)
+    (YieldsList-at c.filter.ensures.source
+    (YieldsList-from_chain (YieldsList-at c.chain.ensures.first (YieldsList-from_once (Some 1) cc))
+    (YieldsList-at c.chain.ensures.second
+    (YieldsList-from_map _ after (YieldsList-at c.map.ensures.source (YieldsList-from_slice rows cc)) c.map.ensures.closure
+    (λ x b q k. search rules)))
+    (cc) cc))
+    c.filter.ensures.closure (λ x b q k. search (rules, tests))) in
+    sym (option_map_id c.min.result) ∙ least ∙ gap_found rows

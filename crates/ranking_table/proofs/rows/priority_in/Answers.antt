@@ -1,23 +1,16 @@
--- Of the rows passed none holds the interval.
-use mathlib.Core.Path.{sym, ◌∙◌}
-use Rattle.ranking_table.specs.Ranking.{priority_in}
-use Rattle.ranking_table.proofs.Passing.{none_passed, open_none, settled, open_next, open_last, priority_here, priority_later}
-use Rattle.ranking_table.proofs.rows.priority_in.Invariants.{priority}
+-- The chain, as a list function, is what the definition says.
+use mathlib.Core.Path.{◌∙◌}
+use Rattle.std.proofs.Common.{rules}
+use Rattle.std.proofs.lemmas.Iterator.{YieldsList-from_slice}
+use Rattle.std.proofs.lemmas.Iterator.Search.{find_from_yields_List}
+use Rattle.ranking_table.specs.Ranking.{holds}
+use Rattle.ranking_table.proofs.Chains.{priority_in_is}
 use Rattle.ranking_table.proofs.rows.priority_in.Goals as goal
 
-pub loop-k-init : goal.loop-k-init
-loop-k-init c = open_none (priority _) (none_passed _ _ c.well_formed.0.1.0.1 c.requires)
-
-pub returns-then-is_held : goal.returns-then-is_held
-returns-then-is_held c =
-    settled (priority _) c.loop-k.invariant c.loop-k-test.true
-    (priority_here _ _ (sym c.is_held.ensures ∙ c.if-is_held.true))
-
-pub loop-k-preserved : goal.loop-k-preserved
-loop-k-preserved c =
-    open_next (priority _) c.loop-k.invariant c.loop-k-test.true
-    (priority_later _ _ (sym c.is_held.ensures ∙ c.if-is_held.false))
-
 pub returns : goal.returns
-unfolding priority_in
-returns c = open_last (priority _) c.loop-k.invariant c.loop-k-test.false
+returns c =
+    let found =
+    find_from_yields_List (holds c.args.i) _ _ c.find.result c.find.ensures.ran (YieldsList-from_slice c.args.rows.now cc)
+    (λ x b q k. search rules) in
+    search (rules, found)
+    ∙ priority_in_is c.args.rows.now c.args.i

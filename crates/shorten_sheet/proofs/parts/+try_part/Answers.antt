@@ -36,14 +36,14 @@ pub returns-then-from-middle : goal.returns-then-from-middle
 returns-then-from-middle t c =
     halves_keep c.args.number (shown c.args.start) c.requires.0 c.reach-half.ensures c.try_part-kept.ensures c.try_part.ensures
 
-pub ask-asked-requires : goal.ask-asked-requires
-ask-asked-requires t c = (c.requires.0.rear, c.requires.1)
+pub ask-requires : goal.ask-requires
+ask-requires t c = (c.requires.0.rear, c.requires.1)
 
 -- the event is left out
-pub returns-then-asked : goal.returns-then-asked
-returns-then-asked t c =
+pub returns-then-is_some : goal.returns-then-is_some
+returns-then-is_some t c =
     left_out c.args.number (shown c.args.start) c.requires.0 c.reach-half.ensures c.if-from-middle.false
-    (sym c.ask-asked.ensures.found ∙ c.if-asked.true)
+    (sym c.ask.ensures.found ∙ sym c.is_some.ensures ∙ c.if-is_some.true)
 
 pub move_up-requires : goal.move_up-requires
 move_up-requires t c = (omega (arith, c.if-to-from.false), c.requires.0.order, c.requires.0.rear.inside)
@@ -52,4 +52,4 @@ move_up-requires t c = (omega (arith, c.if-to-from.false), c.requires.0.order, c
 pub returns : goal.returns
 returns t c =
     stays c.args.number (shown c.args.start) c.requires.0 c.reach-half.ensures c.if-from-middle.false
-    (sym c.ask-asked.ensures.found ∙ c.if-asked.false) c.move_up.ensures
+    (sym c.ask.ensures.found ∙ sym c.is_some.ensures ∙ c.if-is_some.false) c.move_up.ensures

@@ -1,11 +1,10 @@
 -- An event is left at every turn, so a record is found. At the first one nothing may be behind it; later as much as is asked.
 use native.Mathlib.Omega.{arith}
 use mathlib.Core.Path.{◌≡◌, refl, sym, ap, ◌∙◌}
-use Rattle.rules.specs.EventFile.{event, stepped}
 use Rattle.event_file.specs.Answers.{shown_found}
 use Rattle.event_file.proofs.Steps.{not_record}
 use Rattle.shorten_sheet.proofs.Standing.{none_stands}
-use Rattle.shorten_sheet.proofs.Going.{begin, Turn, onward, within, reaches, found_before_end}
+use Rattle.shorten_sheet.proofs.Going.{begin, turn, onward, within, reaches, found_before_end}
 use Rattle.shorten_sheet.proofs.reach.reach.Goals as goal
 
 pub loop-event-init : goal.loop-event-init
@@ -18,34 +17,24 @@ returns-in_default c =
 
 pub overflow_sub-file : goal.overflow_sub-file
 overflow_sub-file c =
-    within c.loop-event.invariant.0 ((let found' : event c.in-Record.event ≡ (stepped c.args.file.now c.loop-event.at).found = sym (ap shown_found c.in-Record.is) ∙ c.step-read.ensures.0 in found')) c.step-read.ensures.1
+    within c.loop-event.invariant.0 (sym (ap shown_found c.in-Record.is) ∙ c.step-read.ensures.0) c.step-read.ensures.1
 
 pub returns-then-file-read : goal.returns-then-file-read
 returns-then-file-read c =
-    reaches c.loop-event.invariant.0 ((let found' : event c.in-Record.event ≡ (stepped c.args.file.now c.loop-event.at).found = sym (ap shown_found c.in-Record.is) ∙ c.step-read.ensures.0 in found')) c.step-read.ensures.1 _ c.if-file-read.true
-    c.loop-event.invariant.2
+    reaches c.loop-event.invariant.0 (sym (ap shown_found c.in-Record.is) ∙ c.step-read.ensures.0) c.step-read.ensures.1 _
+    c.if-file-read.true c.loop-event.invariant.2
 
-pub dispatch-answered-requires : goal.dispatch-answered-requires
-dispatch-answered-requires c = c.loop-event.invariant.0.sound
+pub dispatch-requires : goal.dispatch-requires
+dispatch-requires c = c.loop-event.invariant.0.sound
 
 pub loop-event-smaller : goal.loop-event-smaller
 loop-event-smaller c =
-    let o = onward c.loop-event.invariant.0 ((let turn' : Turn c.args.file.now c.loop-event.at c.step-read.result.offset
-    c.loop-event.machine c.in-Record.event c.dispatch-answered.result = record {
-      narrow = λ i. (c.shared_slice_known-1.given i).fits;
-      found = (let found' : event c.in-Record.event ≡ (stepped c.args.file.now c.loop-event.at).found = sym (ap shown_found c.in-Record.is) ∙ c.step-read.ensures.0 in found');
-      moved = c.step-read.ensures.1;
-      given = c.dispatch-answered.ensures;
-    } in turn')) in
+    let o = onward c.loop-event.invariant.0
+    (turn _ (λ i. (c.type_inv.file i).fits) c.in-Record.is c.step-read.ensures.0 c.step-read.ensures.1 c.dispatch.ensures) in
     omega (arith, o.ends, o.next.stands.inside)
 
 pub loop-event-preserved : goal.loop-event-preserved
 loop-event-preserved c =
-    let o = onward c.loop-event.invariant.0 ((let turn' : Turn c.args.file.now c.loop-event.at c.step-read.result.offset
-    c.loop-event.machine c.in-Record.event c.dispatch-answered.result = record {
-      narrow = λ i. (c.shared_slice_known-1.given i).fits;
-      found = (let found' : event c.in-Record.event ≡ (stepped c.args.file.now c.loop-event.at).found = sym (ap shown_found c.in-Record.is) ∙ c.step-read.ensures.0 in found');
-      moved = c.step-read.ensures.1;
-      given = c.dispatch-answered.ensures;
-    } in turn')) in
+    let o = onward c.loop-event.invariant.0
+    (turn _ (λ i. (c.type_inv.file i).fits) c.in-Record.is c.step-read.ensures.0 c.step-read.ensures.1 c.dispatch.ensures) in
     (o.next, omega (arith, c.if-file-read.false), λ q. absurd (omega (arith, q, o.ends, c.loop-event.invariant.0.place)))

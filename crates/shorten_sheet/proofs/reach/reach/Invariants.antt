@@ -8,7 +8,9 @@ use Rattle.shorten_sheet.proofs.Going.{Along}
 use Rattle.shorten_sheet.proofs.reach.reach.Given as goal
 
 abbrev pub invariant-loop-event : goal.invariant-loop-event
-invariant-loop-event l = Along l.file l.from (shown l.initial.machine) (events_at l.from l.file) l.at l.machine × (l.at < length l.file) × (l.at ≡ l.from → l.most ≡ 0)
+invariant-loop-event l =
+    Along l.file l.from (shown l.initial.machine) (events_at l.from l.file) l.at l.machine × (l.at < length l.file)
+    × (l.at ≡ l.from → l.most ≡ 0)
 
 abbrev pub decreases-loop-event : goal.decreases-loop-event
 decreases-loop-event l = length l.file - l.at

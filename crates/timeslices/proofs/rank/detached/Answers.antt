@@ -9,4 +9,4 @@ returns-in-Queue c =
 pub returns-in-Behind : goal.returns-in-Behind
 returns-in-Behind c =
     by_place _ _ _ _ _ _ c.timeslice_at-x.ensures c.in-Behind.is
-    (rw c.with_record.ensures (replaced _ _ _ _ c.timeslice_at-x.ensures))
+    (rw c.with_entry.ensures (replaced _ _ _ _ c.timeslice_at-x.ensures))

@@ -13,7 +13,7 @@ returns-in-None c =
     let turns = turns_read c.args.after.now c.args.live in
     record {
       slices = refl;
-      places = found_none (set_of c.args.set) _ turns (map place_of c.args.timeslices) _ c.members_of-found.ensures
+      places = found_none (set_of c.args.set) _ turns (map place_of c.args.timeslices) _ c.members_of.ensures
           c.in-None.is;
     }
 
@@ -22,9 +22,9 @@ returns-in-One c =
     let turns = turns_read c.args.after.now c.args.live in
     let r = replaced c.args.timeslices _ _ _ c.timeslice_at-x.ensures in
     record {
-      slices = ap (map slice_of) c.with_record.ensures ∙ r.slices;
-      places = ap (map place_of) c.with_record.ensures ∙ r.places
-          ∙ found_one (set_of c.args.set) _ turns (map place_of c.args.timeslices) _ c.members_of-found.ensures _ c.in-One.is;
+      slices = ap (map slice_of) c.with_entry.ensures ∙ r.slices;
+      places = ap (map place_of) c.with_entry.ensures ∙ r.places
+          ∙ found_one (set_of c.args.set) _ turns (map place_of c.args.timeslices) _ c.members_of.ensures _ c.in-One.is;
     }
 
 pub returns-in-Several : goal.returns-in-Several
@@ -33,6 +33,6 @@ returns-in-Several c =
     record {
       slices = c.released.ensures.slices;
       places = c.released.ensures.places
-          ∙ found_several (set_of c.args.set) _ turns (map place_of c.args.timeslices) _ c.members_of-found.ensures _
+          ∙ found_several (set_of c.args.set) _ turns (map place_of c.args.timeslices) _ c.members_of.ensures _
           c.in-Several.is;
     }

@@ -1,10 +1,8 @@
 -- Each timeslice of the turn order is moved if it is in the set; what is left to release from there on gives the places of the whole.
+use Prim.Native.Nat.{◌-◌}
 use Rattle.tables.specs.Sets.{set_of}
 use Rattle.timeslices.proofs.ReleaseLoop.{Moving}
 use Rattle.timeslices.proofs.release.released.Given as goal
 
-abbrev pub invariant-loop-left : goal.invariant-loop-left
-invariant-loop-left l = Moving (set_of l.set) l.first l.after l.live l.initial.timeslices l.timeslices l.left l.at
-
-abbrev pub decreases-loop-left : goal.decreases-loop-left
-decreases-loop-left l = l.left
+abbrev pub invariant-loop : goal.invariant-loop
+invariant-loop l = Moving (set_of l.set) l.first l.after l.live l.initial.timeslices l.timeslices (l.end - l.counter) l.at

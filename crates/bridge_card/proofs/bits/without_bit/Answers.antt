@@ -1,7 +1,0 @@
--- Bit by bit; the bit that is shifted up stays within the byte.
-use native.Mathlib.Omega.{arith}
-use Rattle.bridge_card.proofs.Bytes.{without_one}
-use Rattle.bridge_card.proofs.bits.without_bit.Goals as goal
-
-pub returns : goal.returns
-returns c = without_one c.args.byte c.args.i (omega arith) c.requires
