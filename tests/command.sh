@@ -728,7 +728,8 @@ run "after an interruption" 0 key "a file"; prints "$work/k1.key"
 
 # ./check: rt ci says the words given and ends with the status given; the outside tests end as told.
 ci() { printf '%s\n' "$2" >"$work/ci"; echo "$1" >"$work/ci.status"; } # STATUS WORDS
-names="sequences compare command wakes reasons shares shorten office_tables ranking cards card order_lists orders words documents sentences"
+names="sequences compare command complaints wakes reasons shares shorten office_tables ranking cards card order_lists orders words"
+names+=" documents sentences"
 tests() { # [NAME of the one that fails]
     local one
     for one in $names; do echo 'echo "given: $*"' >"$repository/tests/$one.sh"; done

@@ -12,6 +12,7 @@ fn lowest_line(lines: u8) -> Option<u8>
     (0..8).find(
         |&line|
             requires { line < 8 }
+            ensures { result ≡ bit line lines }
         { has_bit(lines, line) },
     )
 }

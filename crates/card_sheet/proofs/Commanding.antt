@@ -29,7 +29,7 @@ use Rattle.card_sheet.specs.Promises.{stand_of, Obeys}
 use Rattle.card_sheet.proofs.Inputs.{file_early}
 
 -- the lines of what a command did
-its_lines : {d : Done} {file after : List ℕ} {r : Obeyed} (number : ℕ) → Obeys d file after r
+pub its_lines : {d : Done} {file after : List ℕ} {r : Obeyed} (number : ℕ) → Obeys d file after r
     → line_bytes number (number_in r.answer) r.machine.running (links_in r.answer) ++ (decimal r.byte ++ block_text after)
     ≡ two_lines number d
 unfolding line_bytes line two_lines
@@ -41,7 +41,7 @@ its_lines {d} {after = after} {r = r} number o =
     ∙ (λ i. line number (answer i) ++ decimal (o.byte i) ++ block_text (o.block i))
 
 -- and where it leaves the code
-next_stand : {d : Done} {file after : List ℕ} {r : Obeyed} → Obeys d file after r
+pub next_stand : {d : Done} {file after : List ℕ} {r : Obeyed} → Obeys d file after r
     → stand_of after file r.offset r.machine ≡ stand_after d
 next_stand o =
     let block = o.block in
@@ -49,7 +49,7 @@ next_stand o =
     let events = ap or_none o.left.reads in
     λ i. record { block = block i; state = state i; events = events i }
 
-next_ready : {d : Done} {file after : List ℕ} {r : Obeyed} → Obeys d file after r → Ready file r.offset r.machine
+pub next_ready : {d : Done} {file after : List ℕ} {r : Obeyed} → Obeys d file after r → Ready file r.offset r.machine
 next_ready {file = file} {r = r} o =
     record { left = subst (Left file r.offset) (sym (ap or_none o.left.reads)) o.left; sound = o.sound }
 

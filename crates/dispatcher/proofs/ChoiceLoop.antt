@@ -56,7 +56,7 @@ pub record Look (s : State) (t : ℕ) (c : Chain) (v : Verdict) : Type 0 where
   pub chain : c ≡ chain_of s.threads s.slices t
   pub says : v ≡ verdict s.threads c
 
-looked : (s : State) (f : std.Option ℕ) (t owner : ℕ) (c : Chain) (h : Hold) (v : Said)
+pub looked : (s : State) (f : std.Option ℕ) (t owner : ℕ) (c : Chain) (h : Hold) (v : Said)
     → sought_of f ≡ topmost_at in_queue s → f ≡ Some t
     → owner ≡ owner_at s.slices t → c ≡ walk s.threads owner → h ≡ hold_at s.threads c.end
     → verdict_of v ≡ cond c.looped stalls (at_end h c.links) → Look s t c (verdict_of v)

@@ -1,16 +1,16 @@
 -- Words by their bytes: digits, the number that they make, and names.
-use Prim.Native.Nat.{ℕ, suc, ◌+◌, ◌-◌, ◌*◌, ◌≤◌, ◌<◌}
+use Prim.Native.Nat.{ℕ, suc, ◌+◌, ◌-◌, ◌*◌, ◌≤◌, ◌<◌, min}
 use native.Mathlib.Omega.{arith}
 use native.Mathlib.Numerals.{add-one}
-use mathlib.Core.Path.{◌≡◌, refl, ap}
+use mathlib.Core.Path.{◌≡◌, refl, sym, ap, ◌∙◌}
 use mathlib.Core.Bool.{Bool, true, false, ◌&&◌}
 use mathlib.Core.List.{List, [], ◌∷◌}
 use lib.ListN.{length, get_or, drop, drop_of_length-le}
 use lib.Seq.{drop-cons}
 use lib.Dec.{leb, eqb}
-use borrow.Author.Tests.{leb-true}
+use borrow.Author.Tests.{leb-true, leb-false, eq-eqb, ne_eqb}
+use Rattle.rules.proofs.Basics.Views.{Two, yes_true, no_false, two}
 use Rattle.rules.specs.Tests.{all}
-use Rattle.std.specs.List.{list_all}
 use Rattle.std.specs.Str.{bytes_eq}
 use Rattle.list_line.specs.Reading.{same, digit_byte, value_from, value}
 
@@ -20,12 +20,6 @@ unfolding value_from
 grows [] n = omega arith
 grows (b ∷ rest) n = omega (arith, grows rest (n * 10 + (b - 48)))
 
--- `all` in std's words
-pub all_is : (test : ℕ → Bool) (l : List ℕ) → list_all test l ≡ all test l
-unfolding all
-all_is test [] = refl
-all_is test (b ∷ rest) = ap (λ (c : Bool). test b && c) (all_is test rest)
-
 -- a word is another, in std's words
 pub same_is : (a b : List ℕ) → bytes_eq a b ≡ same a b
 unfolding same
@@ -33,6 +27,20 @@ same_is [] [] = refl
 same_is [] (y ∷ ys) = refl
 same_is (x ∷ xs) [] = refl
 same_is (x ∷ xs) (y ∷ ys) = ap (λ (c : Bool). eqb x y && c) (same_is xs ys)
+
+-- two words at a place
+module _ (a b : List ℕ) (i : ℕ) (inside : i < length a) (inside' : i < length b) where
+  pub same_next : get_or a i 0 ≡ get_or b i 0 → same (drop i a) (drop i b) ≡ same (drop (i + 1) a) (drop (i + 1) b)
+  unfolding same
+  same_next e = rw (drop-cons a i 0 inside, drop-cons b i 0 inside', eq-eqb _ _ e, add-one) refl
+
+  pub same_not : (get_or a i 0 ≡ get_or b i 0 → ⊥) → same (drop i a) (drop i b) ≡ false
+  unfolding same
+  same_not e = rw (drop-cons a i 0 inside, drop-cons b i 0 inside', ne_eqb _ _ e) refl
+
+pub same_over : (a b : List ℕ) (i : ℕ) → length a ≤ i → length b ≤ i → same (drop i a) (drop i b) ≡ true
+unfolding same
+same_over a b i h g = rw (drop_of_length-le a h, drop_of_length-le b g) refl
 
 and_false : (a b : Bool) → b ≡ false → (a && b) ≡ false
 and_false true b e = e
@@ -59,27 +67,53 @@ is_digit b e =
     let both = both_true (leb 48 b) (leb b 57) e in
     record { low = leb-true 48 b both.0; high = leb-true b 57 both.1 }
 
--- the digit at a place, and those after it
-module _ (l : List ℕ) (i : ℕ) (inside : i < length l) where
-  pub digit_here : all digit_byte (drop i l) ≡ true → Digit (get_or l i 0) × (all digit_byte (drop (i + 1) l) ≡ true)
-  unfolding all
-  digit_here e =
-      let there : (digit_byte (get_or l i 0) && all digit_byte (drop (suc i) l)) ≡ true = rw (drop-cons l i 0 inside) at e in
-      let both = both_true (digit_byte (get_or l i 0)) (all digit_byte (drop (suc i) l)) there in
-      (is_digit _ both.0, rw (add-one i) both.1)
+-- what passes 65,535 stays above it, whatever digits follow: it may as well be 65,536
+capped : (l : List ℕ) (m : ℕ) → Two (leb m 65536) → min (value_from (min m 65536) l) 65536 ≡ min (value_from m l) 65536
+capped l m (yes_true e) =
+    let small : min m 65536 ≡ m = omega (arith, leb-true m 65536 e) in
+    ap (λ (k : ℕ). min (value_from k l) 65536) small
+capped l m (no_false e) =
+    let large : min m 65536 ≡ 65536 = omega (arith, leb-false m 65536 e) in
+    ap (λ (k : ℕ). min (value_from k l) 65536) large
+    ∙ omega (arith, grows l 65536, grows l m, leb-false m 65536 e)
 
-  pub value_here : (n : ℕ) → value_from n (drop i l) ≡ value_from (n * 10 + (get_or l i 0 - 48)) (drop (i + 1) l)
-  unfolding value_from
-  value_here n = rw (drop-cons l i 0 inside, add-one i) refl
+-- so far n, and the bytes from a place on
+pub record Reads (word : List ℕ) (i n : ℕ) : Type 0 where
+  pub digits : all digit_byte (drop i word) ≡ all digit_byte word
+  pub whole : min (value_from n (drop i word)) 65536 ≡ min (value word) 65536
+  pub bounded : n ≤ 65536
 
-  -- what passes 65,535 stays above it
-  pub large_here : (n : ℕ) → value_from n (drop i l) ≡ value l → 65535 < n * 10 + (get_or l i 0 - 48) → 65535 < value l
-  large_here n e h = omega (arith, e, value_here n, grows (drop (i + 1) l) (n * 10 + (get_or l i 0 - 48)))
-
-pub value_over : (l : List ℕ) (i n : ℕ) → length l ≤ i → value_from n (drop i l) ≡ n
-unfolding value_from
-value_over l i n h = rw (drop_of_length-le l h) refl
-
-pub value_starts : (l : List ℕ) → value_from 0 l ≡ value l
+pub none_read : (word : List ℕ) → Reads word 0 0
 unfolding value
-value_starts l = refl
+none_read word = record { digits = refl; whole = refl; bounded = omega arith }
+
+module _ {word : List ℕ} {i n : ℕ} (r : Reads word i n) where
+  module _ (inside : i < length word) where
+    pub digit_read : digit_byte (get_or word i 0) ≡ true → {m : ℕ} → m ≡ min (n * 10 + (get_or word i 0 - 48)) 65536
+        → Reads word (i + 1) m
+    unfolding all value_from
+    digit_read e {m} is =
+        let next = n * 10 + (get_or word i 0 - 48) in
+        let bytes : drop i word ≡ get_or word i 0 ∷ drop (suc i) word = drop-cons word i 0 inside in
+        let digits : all digit_byte (drop (suc i) word) ≡ all digit_byte word = rw (bytes, e) at r.digits in
+        let whole : min (value_from next (drop (suc i) word)) 65536 ≡ min (value word) 65536 = rw bytes at r.whole in
+        record {
+          digits = rw add-one digits;
+          whole = rw (add-one, is) (capped (drop (suc i) word) next (two (leb next 65536)) ∙ whole);
+          bounded = omega (arith, is);
+        }
+
+    pub no_digit : digit_byte (get_or word i 0) ≡ false → all digit_byte word ≡ false
+    unfolding all
+    no_digit e = sym r.digits ∙ rw (drop-cons word i 0 inside, e) refl
+
+  pub all_read : length word ≤ i → (all digit_byte word ≡ true) × (n ≡ min (value word) 65536)
+  unfolding all value_from
+  all_read out =
+      let none : drop i word ≡ [] = drop_of_length-le word out in
+      let digits : true ≡ all digit_byte word = rw none at r.digits in
+      let whole : min n 65536 ≡ min (value word) 65536 = rw none at r.whole in
+      (sym digits, omega (arith, whole, r.bounded))
+
+pub digit_low : (b : ℕ) → digit_byte b ≡ true → 48 ≤ b
+digit_low b e = (is_digit b e).low

@@ -1,32 +1,29 @@
 -- A scan finds the first part of a text; the other parts begin after it.
 use Prim.Native.Nat.{ℕ, suc, ◌+◌, ◌-◌, ◌≤◌, ◌<◌}
 use native.Mathlib.Omega.{arith}
+use native.Mathlib.Numerals.{add-one}
 use mathlib.Core.Path.{◌≡◌, refl, sym, ap, ap₂, ◌∙◌}
 use mathlib.Core.Bool.{Bool, true, false, cond, not}
 use mathlib.Core.List.{List, [], ◌∷◌}
 use lib.ListN.{length, get_or, take, drop, length-drop, drop_of_length-le}
-use lib.Dec.{ltb}
 use lib.Seq.{drop-cons, drop-drop}
-use borrow.Author.Tests.{ltb-false}
-use Rattle.std.proofs.Common.{Option, Some, None, max}
-use Rattle.std.proofs.lemmas.List.Recursion.{is_position_or_len}
-use Rattle.std.specs.List.{position_or_len}
 use Rattle.rules.proofs.Basics.Views.{Two, yes_true, no_false, two}
 use Rattle.list_line.specs.Reading.{parts, hash, first_of, uncommented, blank, not_empty, words_of}
 use Rattle.list_line.specs.Scanning.{end_of}
 
--- where the first byte stands that passes, if one does
-pub ends_at : (test : ℕ → Bool) (l : List ℕ) → end_of test l ≡ position_or_len test l
-unfolding end_of
-ends_at test l = is_position_or_len (end_of test) test refl (λ x xs. ap (λ (k : ℕ). cond (test x) 0 k) (omega arith)) l
+-- at a place: the scan stops here, or goes on, or the text is over
+module _ (test : ℕ → Bool) (l : List ℕ) (i : ℕ) where
+  pub stops_here : i < length l → test (get_or l i 0) ≡ true → end_of test (drop i l) ≡ 0
+  unfolding end_of
+  stops_here h e = rw (drop-cons l i 0 h, e) refl
 
-found_at : (k size n : ℕ) → Some n ≡ cond (ltb k size) (Some k) None → Two (ltb k size) → n ≡ k
-found_at k size n e (yes_true t) = let same : Some n ≡ Some k = rw t at e in cc
-found_at k size n e (no_false t) = let none : Some n ≡ None = rw t at e in cc
+  pub goes_on : i < length l → test (get_or l i 0) ≡ false → end_of test (drop i l) ≡ suc (end_of test (drop (i + 1) l))
+  unfolding end_of
+  goes_on h e = rw (drop-cons l i 0 h, e, add-one) refl
 
-none_at : (k size : ℕ) → None ≡ cond (ltb k size) (Some k) None → Two (ltb k size) → size ≤ k
-none_at k size e (yes_true t) = let some : None ≡ Some k = rw t at e in cc
-none_at k size e (no_false t) = ltb-false k size t
+  pub is_over : length l ≤ i → end_of test (drop i l) ≡ 0
+  unfolding end_of
+  is_over h = rw (drop_of_length-le l h) refl
 
 end_by : (test : ℕ → Bool) (b : ℕ) (rest : List ℕ) → end_of test rest ≤ length rest → Two (test b)
     → end_of test (b ∷ rest) ≤ length (b ∷ rest)
@@ -38,18 +35,6 @@ pub end_within : (test : ℕ → Bool) (l : List ℕ) → end_of test l ≤ leng
 unfolding end_of
 end_within test [] = omega arith
 end_within test (b ∷ rest) = end_by test b rest (end_within test rest) (two (test b))
-
-module _ (test : ℕ → Bool) (l : List ℕ) (at : ℕ) where
-  pub found : {answer : Option ℕ} (n : ℕ) → answer ≡ Some n
-      → answer ≡ cond (ltb (position_or_len test (drop at l)) (length (drop at l))) (Some (position_or_len test (drop at l))) None
-      → n ≡ end_of test (drop at l)
-  found n e f = found_at _ _ n (sym e ∙ f) (two _) ∙ sym (ends_at test (drop at l))
-
-  pub not_found : {answer : Option ℕ} → answer ≡ None
-      → answer ≡ cond (ltb (position_or_len test (drop at l)) (length (drop at l))) (Some (position_or_len test (drop at l))) None
-      → max at (length l) ≡ at + end_of test (drop at l)
-  not_found e f =
-      omega (arith, none_at _ _ (sym e ∙ f) (two _), ends_at test (drop at l), end_within test (drop at l), length-drop at l)
 
 -- a scan from a place inside the text ends inside it
 pub scan_within : (test : ℕ → Bool) (l : List ℕ) (at : ℕ) → at ≤ length l → at + end_of test (drop at l) ≤ length l

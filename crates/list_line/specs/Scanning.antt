@@ -1,11 +1,20 @@
--- How the code reads: by places in the text, and word by word. But for `end_of` these definitions stand only in contracts of internal
--- functions.
-use Rattle.std.specs.Prelude.{ℕ, suc, ◌≡◌, List, [], ◌∷◌, Bool, cond, Result}
+-- How the code reads: by places in the text, and word by word. But for `stops` and `end_of` these definitions stand only in contracts of
+-- internal functions.
+use Rattle.std.specs.Prelude.{ℕ, suc, ◌≡◌, List, [], ◌∷◌, Bool, cond, not, Result}
 use Rattle.rules.specs.declared.Role.{Role}
 use Rattle.rules.specs.declared.Event.{Event}
 use Rattle.list_line.specs.declared.fault.Fault.{Fault}
-use Rattle.list_line.specs.Reading.{Line, One, number, role, last}
+use Rattle.list_line.specs.declared.scan.Until.{Until}
+use Rattle.list_line.specs.declared.scan.Until.TheVariants.{LineFeed, Hash, Blank, Word}
+use Rattle.list_line.specs.Reading.{Line, One, line_feed, hash, blank, number, role, last}
 use Rattle.list_line.specs.Faults.{after}
+
+-- the bytes that a scan stops at
+abbrev pub stops : Until → ℕ → Bool
+stops LineFeed b = line_feed b
+stops Hash b = hash b
+stops Blank b = blank b
+stops Word b = not (blank b)
 
 -- how many bytes stand before the first that passes a test
 unfoldable pub end_of : (ℕ → Bool) → List ℕ → ℕ

@@ -5,7 +5,7 @@ ghost use Rattle.list_line.specs.Reading as reading;
 ghost use Rattle.list_line.specs.Faults.{event_in, line_in};
 
 use crate::Fault;
-use crate::scan::scan;
+use crate::scan::{Until, scan};
 use crate::words::{Words, same};
 use rules::Event;
 
@@ -22,13 +22,13 @@ fn give(words: &mut Words<'_>) -> Result<Event, Fault>
     ensures { event_in result ≡ reading.give words.old }
 {
     let timeslice = words.byte()?;
-    let thread = words.byte()?;
+    let owner = words.byte()?;
     let priority = words.byte()?;
     let quantum = words.wide()?;
     words.end()?;
     Ok(Event::Give {
         timeslice,
-        thread,
+        thread: owner,
         priority,
         quantum,
     })
@@ -105,7 +105,7 @@ fn named(word: &[u8], words: &mut Words<'_>) -> Result<Event, Fault>
 fn uncommented(line: &[u8]) -> &[u8]
     ensures { result.now ≡ uncommented line.now }
 {
-    let stop = scan(line, 0, |b| b == b'#');
+    let stop = scan(line, 0, Until::Hash);
     &line[..stop]
 }
 

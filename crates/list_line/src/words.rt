@@ -1,43 +1,43 @@
 // The words of a line, and what stands after an event's name, taken word by word.
-ghost use Rattle.std.specs.Prelude.{◌≡◌, ◌≤◌, ◌<◌, true, ◌∷◌, [], MatchOption, IfOk};
+ghost use Rattle.std.specs.Prelude.{◌≡◌, ◌≤◌, true, false, ◌∷◌, [], min, MatchOption, IfOk};
 ghost use Rattle.rules.specs.Tests.{all};
-ghost use Rattle.list_line.specs.Reading.{blank, digit_byte, value, words_of};
+ghost use Rattle.list_line.specs.Reading.{digit_byte, value, words_of};
 ghost use Rattle.list_line.specs.Reading as reading;
 ghost use Rattle.list_line.specs.Faults.{number_of};
 ghost use Rattle.list_line.specs.Scanning.{TakesNumber, TakesRole, TakesEnd};
 
 use crate::Fault;
-use crate::scan::scan;
+use crate::scan::{Until, scan};
 use rules::Role;
 use std::marker::Model;
-
-fn is_blank(b: u8) -> bool
-    ensures { result ≡ blank b }
-{
-    matches!(b, b' ' | b'\t' | b'\r')
-}
 
 // For the events' names: a `match` on eleven byte strings has a goal for each byte of each, and over a dozen of them stay open.
 pub fn same(word: &[u8], name: &[u8]) -> bool
     ensures { result ≡ reading.same word.now name.now }
 {
-    word == name
+    // Not by `==`, which is a call for each name of that length.
+    if word.len() != name.len() {
+        return false;
+    }
+    for i in 0..word.len() {
+        if word[i] != name[i] {
+            return false;
+        }
+    }
+    true
 }
 
-fn is_number(word: &[u8]) -> bool
-    ensures { result ≡ all digit_byte word.now }
+// The number that a word of digits is, 65,536 for each above 65,535; none for another word. It is passed over once.
+fn value(word: &[u8]) -> Option<u32>
+    ensures { MatchOption result (all digit_byte word.now ≡ false)
+        (λ n. (all digit_byte word.now ≡ true) × (n ≡ min (value word.now) 65536)) }
 {
-    word.iter().all(|b| b.is_ascii_digit())
-}
-
-// The number that a word of digits is, none above 65,535.
-fn value(digits: &[u8]) -> Option<u16>
-    requires { all digit_byte digits.now ≡ true }
-    ensures { MatchOption result (65535 < value digits.now) (λ n. n ≡ value digits.now) }
-{
-    let mut n = 0u16;
-    for b in digits {
-        n = n.checked_mul(10)?.checked_add(u16::from(*b - b'0'))?;
+    let mut n = 0u32;
+    for b in word {
+        if !b.is_ascii_digit() {
+            return None;
+        }
+        n = (n * 10 + u32::from(*b - b'0')).min(65536);
     }
     Some(n)
 }
@@ -70,11 +70,11 @@ impl<'a> Words<'a> {
         ensures { MatchOption result (self.old ≡ []) (λ word. self.old ≡ word.now ∷ self.new) }
     {
         let line = self.line;
-        let start = scan(line, self.at, |b| !is_blank(b));
+        let start = scan(line, self.at, Until::Word);
         if start >= line.len() {
             return None;
         }
-        let end = scan(line, start, is_blank);
+        let end = scan(line, start, Until::Blank);
         let word = &line[start..end];
         self.at = end;
         Some(word)
@@ -85,12 +85,10 @@ impl<'a> Words<'a> {
         ensures bounded { IfOk result (λ n. n ≤ most) }
     {
         let word = self.word().ok_or(Fault::Missing)?;
-        if !is_number(word) {
-            return Err(Fault::Missing);
-        }
         match value(word) {
-            Some(n) if n <= most => Ok(n),
-            _ => Err(above),
+            None => Err(Fault::Missing),
+            Some(n) if n <= u32::from(most) => Ok(n as u16),
+            Some(_) => Err(above),
         }
     }
 

@@ -68,7 +68,7 @@ module _ (m : PlainMachine) where
 
   module _ (n t count : ℕ) (run : m.running ≡ Runs n t count) where
     -- Charge: it is accepted, so the current timeslice has time left, and is listed
-    charge_fits : (units : ℕ) → Takes (Charge units) m → (1 ≤ units) × (units ≤ left_at m.slices t)
+    pub charge_fits : (units : ℕ) → Takes (Charge units) m → (1 ≤ units) × (units ≤ left_at m.slices t)
     charge_fits units k =
         let number = ap (λ (r : Running). nothing_runs r gives 5 else
         eqb units 0 || ltb (left_at m.slices (current_timeslice r)) units gives 11 else 0) run in
@@ -76,7 +76,7 @@ module _ (m : PlainMachine) where
         let some-units = eqb-false units 0 tests.0 in
         (omega (arith, some-units), ltb-false _ _ tests.1)
 
-    charge_listed : (units : ℕ) → Takes (Charge units) m → member t (take m.live m.order) ≡ true
+    pub charge_listed : (units : ℕ) → Takes (Charge units) m → member t (take m.live m.order) ≡ true
     charge_listed units k = by (two (member t (take m.live m.order)))
       where
         by : Two (member t (take m.live m.order)) → member t (take m.live m.order) ≡ true
@@ -129,7 +129,7 @@ module _ (m : PlainMachine) where
       (new ∙ ap (λ (y : Slice). set m.slices t (with_left y.quantum y)) read)
 
   -- Rank
-  rank_listed : (t priority : ℕ) → Takes (Rank t priority) m → member t p.order ≡ true
+  pub rank_listed : (t priority : ℕ) → Takes (Rank t priority) m → member t p.order ≡ true
   rank_listed t priority k =
       let above = passes (above_limit t) 1 _ k.accepted in
       not-false _ (passes (not (member t p.order)) 3 0 above.1).0

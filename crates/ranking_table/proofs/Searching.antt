@@ -14,7 +14,7 @@ use Rattle.std.specs.Prelude.{Some}
 use Rattle.std.specs.List.{filter, fold, reduce}
 use Rattle.rules.proofs.Basics.Views.{Two, yes_true, no_false, two, clash}
 use Rattle.ranking_table.specs.Ranking.{smallest_from, smallest}
-use Rattle.ranking_table.specs.Good.{there}
+use Rattle.ranking_table.specs.Good.{there, better}
 
 -- the answer of the search over n intervals from i on
 record Sought (test : ℕ → Bool) (i n r : ℕ) : Type 0 where
@@ -138,6 +138,28 @@ module _ (taken : ℕ → Bool) where
           rw e (here ∙ ap (λ (first : ℕ). there (fold min first (filter taken xs))) (sym lower))
       by (no_false e) h = rw e h
 
+-- one candidate after another, each looked at only below the best so far, ends in the least of those that are taken
+module _ (taken test : ℕ → Bool) (agree : (i : ℕ) → i ≤ 60000 → taken i ≡ test i) where
+  better_is : (xs : List ℕ) (best : ℕ) → best ≤ 60001 → fold (better test) best xs ≡ fold min best (filter taken xs)
+  better_is [] best h = refl
+  better_is (x ∷ xs) best h = by (two (ltb x best)) (two (taken x)) (λ b within. better_is xs b within)
+    where
+      by : Two (ltb x best) → Two (taken x) → ((b : ℕ) → b ≤ 60001 → fold (better test) b xs ≡ fold min b (filter taken xs))
+          → fold (better test) best (x ∷ xs) ≡ fold min best (filter taken (x ∷ xs))
+      by (yes_true l) (yes_true e) rest =
+          let less = ltb-true x best l in
+          let takes : test x ≡ true = sym (agree x (omega (arith, less, h))) ∙ e in
+          let least : min best x ≡ x = omega (arith, less) in
+          rw (l, takes, e) (rest x (omega (arith, less, h)) ∙ ap (λ (m : ℕ). fold min m (filter taken xs)) (sym least))
+      by (yes_true l) (no_false e) rest =
+          let less = ltb-true x best l in
+          let takes : test x ≡ false = sym (agree x (omega (arith, less, h))) ∙ e in
+          rw (l, takes, e) (rest best h)
+      by (no_false l) (yes_true e) rest =
+          let least : min best x ≡ best = omega (arith, ltb-false x best l) in
+          rw (l, e) (rest best h ∙ ap (λ (m : ℕ). fold min m (filter taken xs)) (sym least))
+      by (no_false l) (no_false e) rest = rw (l, e) (rest best h)
+
 -- the least of the candidates that the code takes is the smallest that the test takes
 module _ (taken test : ℕ → Bool) (xs : List ℕ) (at : ℕ → ℕ) where
   -- the list of the candidates: the test is all that the code looks at, but for those past the longest
@@ -148,33 +170,40 @@ module _ (taken test : ℕ → Bool) (xs : List ℕ) (at : ℕ → ℕ) where
     pub tested : (k : ℕ) → k < length xs → taken (at k) ≡ true → test (at k) ≡ true
     pub takes : (k : ℕ) → k < length xs → at k ≤ 60000 → test (at k) ≡ true → taken (at k) ≡ true
 
-  pub least_is : Tried → ((i : ℕ) → 1 ≤ i → test i ≡ true → Candidate test at (length xs) i)
-      → reduce min (filter taken xs) ≡ there (smallest test)
-  least_is t descend = reduce_is taken xs fits ∙ ap there (only_smallest test (smallest_of (least_of taken xs 60001)))
-    where
-      fits : (k : ℕ) → k < length xs → taken (get_or xs k 0) ≡ true → get_or xs k 0 ≤ 60000
-      fits k h e = omega (arith, t.is k h, t.fits k h (ap taken (sym (t.is k h)) ∙ e))
+  module _ (t : Tried) (descend : (i : ℕ) → 1 ≤ i → test i ≡ true → Candidate test at (length xs) i) where
+    of_taken : {m : ℕ} → Taken taken xs m → (1 ≤ m) × (test m ≡ true)
+    of_taken h =
+        let here = t.is h.number h.listed in (
+          omega (arith, here, h.is, t.some h.number h.listed),
+          ap test (sym h.is ∙ here) ∙ t.tested h.number h.listed (ap taken (sym here) ∙ h.takes),
+        )
 
-      of_taken : {m : ℕ} → Taken taken xs m → (1 ≤ m) × (test m ≡ true)
-      of_taken h =
-          let here = t.is h.number h.listed in (
-            omega (arith, here, h.is, t.some h.number h.listed),
-            ap test (sym h.is ∙ here) ∙ t.tested h.number h.listed (ap taken (sym here) ∙ h.takes),
-          )
+    first_of : {m : ℕ} → Least taken xs 60001 m → (j : ℕ) → 1 ≤ j → j < m → Two (test j) → test j ≡ false
+    first_of l j some less (yes_true e) =
+        let c = descend j some e in
+        let here = t.is c.number c.listed in
+        let takes = t.takes c.number c.listed (omega (arith, c.below, l.high)) c.takes in
+        absurd (omega (arith, here, c.below, l.least c.number c.listed (ap taken here ∙ takes)))
+    first_of l j some less (no_false e) = e
 
-      first_of : {m : ℕ} → Least taken xs 60001 m → (j : ℕ) → 1 ≤ j → j < m → Two (test j) → test j ≡ false
-      first_of l j some less (yes_true e) =
-          let c = descend j some e in
-          let here = t.is c.number c.listed in
-          let takes = t.takes c.number c.listed (omega (arith, c.below, l.high)) c.takes in
-          absurd (omega (arith, here, c.below, l.least c.number c.listed (ap taken here ∙ takes)))
-      first_of l j some less (no_false e) = e
+    smallest_of : {m : ℕ} → Least taken xs 60001 m → Smallest test m
+    smallest_of {m} l =
+        record {
+          low = ⊎_elim (λ q. omega (arith, q)) (λ h. (of_taken h).0) l.from;
+          high = l.high;
+          takes = λ inside. ⊎_elim (λ q. absurd (omega (arith, q, inside))) (λ h. (of_taken h).1) l.from;
+          first = λ j some less. first_of l j some less (two (test j));
+        }
 
-      smallest_of : {m : ℕ} → Least taken xs 60001 m → Smallest test m
-      smallest_of {m} l =
-          record {
-            low = ⊎_elim (λ q. omega (arith, q)) (λ h. (of_taken h).0) l.from;
-            high = l.high;
-            takes = λ inside. ⊎_elim (λ q. absurd (omega (arith, q, inside))) (λ h. (of_taken h).1) l.from;
-            first = λ j some less. first_of l j some less (two (test j));
-          }
+    least_by : fold min 60001 (filter taken xs) ≡ smallest test
+    least_by = only_smallest test (smallest_of (least_of taken xs 60001))
+
+    pub least_is : reduce min (filter taken xs) ≡ there (smallest test)
+    least_is = reduce_is taken xs fits ∙ ap there least_by
+      where
+        fits : (k : ℕ) → k < length xs → taken (get_or xs k 0) ≡ true → get_or xs k 0 ≤ 60000
+        fits k h e = omega (arith, t.is k h, t.fits k h (ap taken (sym (t.is k h)) ∙ e))
+
+    -- so is the best, where each is looked at only below the best so far
+    pub best_is : ((i : ℕ) → i ≤ 60000 → taken i ≡ test i) → fold (better test) 60001 xs ≡ smallest test
+    best_is agree = better_is taken test agree xs 60001 (omega arith) ∙ least_by

@@ -8,14 +8,14 @@ use mathlib.Core.Bool.{Bool, false, ◌&&◌}
 use lib.Dec.{leb}
 use lib.ListN.{length, get_or}
 use borrow.Author.Tests.{leb-true, le-leb}
-use Rattle.std.specs.List.{All, filter, reduce}
+use Rattle.std.specs.List.{All, filter, fold, reduce}
 use Rattle.std.proofs.lemmas.List.Elements.{All-from_get_or}
 use Rattle.std.proofs.lemmas.List.{get_or-map, length-map}
 use Rattle.rules.proofs.Basics.Views.{and_true_left, and_true_right, and_true_both}
 use Rattle.ranking_table.specs.declared.Row.{Row}
 use Rattle.ranking_table.specs.Ranking.{any_bad, missing, in_two, overlap, gap}
-use Rattle.ranking_table.specs.Good.{no_row, there}
-use Rattle.ranking_table.proofs.Searching.{Tried, least_is}
+use Rattle.ranking_table.specs.Good.{no_row, there, better}
+use Rattle.ranking_table.proofs.Searching.{Tried, least_is, best_is}
 use Rattle.ranking_table.proofs.Ends.{first_of, begins, follows, first_below, last_below}
 use Rattle.ranking_table.proofs.BadRows.{all_within, none_at_0}
 
@@ -48,6 +48,11 @@ module _ (rows : List Row) where
         least_is (in_two rows) (in_two rows) (map first_of rows) (begins rows) firsts
         (λ i some e. rw (length-map rows first_of) (first_below rows (none_at_0 rows good) i e))
 
+    pub overlap_best : fold (better (in_two rows)) 60001 (map first_of rows) ≡ overlap rows
+    overlap_best =
+        best_is (in_two rows) (in_two rows) (map first_of rows) (begins rows) firsts
+        (λ i some e. rw (length-map rows first_of) (first_below rows (none_at_0 rows good) i e)) (λ i h. refl)
+
   afters : Tried near_gap (missing rows) (1 ∷ map after rows) (follows rows)
   afters =
       record {
@@ -70,3 +75,8 @@ module _ (rows : List Row) where
   gap_found =
       least_is near_gap (missing rows) (1 ∷ map after rows) (follows rows) afters
       (λ i some e. rw (length-map rows after) (last_below rows i some e))
+
+  pub gap_best : fold (better (missing rows)) 60001 (1 ∷ map after rows) ≡ gap rows
+  gap_best =
+      best_is near_gap (missing rows) (1 ∷ map after rows) (follows rows) afters
+      (λ i some e. rw (length-map rows after) (last_below rows i some e)) (λ i h. rw (le-leb i 60000 h) refl)

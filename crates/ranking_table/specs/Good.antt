@@ -1,5 +1,5 @@
 -- What the theorems say of a table, by the numbers of its rows, from 0: good, an interval in exactly one row, in two rows, in none.
-use Rattle.std.specs.Prelude.{ℕ, ◌≤◌, ◌<◌, ◌≡◌, List, Option, Some, None, cond, length, get_or}
+use Rattle.std.specs.Prelude.{ℕ, ◌≤◌, ◌<◌, ◌≡◌, List, Bool, Option, Some, None, cond, ltb, length, get_or}
 use Rattle.ranking_table.specs.declared.Row.{Row}
 use Rattle.ranking_table.specs.Ranking.{Answer, refused, accepted, is_there}
 
@@ -89,3 +89,7 @@ pub data Outcome (rows : List Row) (i : ℕ) : Answer → Type 0 where
 -- what the code finds: no interval where the search of the definitions ends past the longest
 abbrev pub there : ℕ → Option ℕ
 there i = cond (is_there i) (Some i) None
+
+-- what the code tries one by one: a candidate that a test takes, if it is below the best so far
+abbrev pub better : (ℕ → Bool) → ℕ → ℕ → ℕ
+better test best i = cond (ltb i best) (cond (test i) i best) best

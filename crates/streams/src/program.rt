@@ -1,11 +1,15 @@
 // What every program here does: it reads its input whole, writes what its sheet makes of that, and says on the third stream what failed.
-ghost use Rattle.std.specs.Prelude.{List, ℕ, ◌≡◌, OnOk};
+ghost use Rattle.std.specs.Prelude.{List, ℕ, ◌≡◌, ◌≤◌, length, take, OnOk};
 ghost use Rattle.std.specs.Io.KnownBytes.{Appends};
 ghost use Rattle.streams.specs.Program.{CountsWithin, Answers, Reports, complaint};
 
 use super::{Failure, fill, send};
+use arrayvec::ArrayVec;
 use std::io;
-use std::io::{Read, Stderr, Stdin, Stdout, Write};
+use std::io::{ErrorKind, Read, Stderr, Stdin, Stdout, Write};
+
+// Room for what is said of a failure behind a program's name of up to 64 bytes.
+const LINE: usize = 100;
 
 // An array of bytes, whatever its size: a bound on a closure may not name the size.
 pub trait Buffer {
@@ -64,6 +68,14 @@ impl<R: Read, W: Write, E: Write> Streams<R, W, E> {
     }
 }
 
+// What was read.
+fn front(buffer: &[u8], n: usize) -> &[u8]
+    requires { n ≤ length buffer.now }
+    ensures { result.now ≡ take n buffer.now }
+{
+    &buffer[..n]
+}
+
 // Writes to one stream what a sheet makes of the bytes of another, as many as the buffer has room for.
 fn answer<R: Read, W: Write, B: Buffer, F: FnOnce(&[u8], &mut B) -> usize>(
     from: &mut R,
@@ -78,13 +90,21 @@ fn answer<R: Read, W: Write, B: Buffer, F: FnOnce(&[u8], &mut B) -> usize>(
         (W.contents to.old) (W.contents to.new) result }
 {
     let n = fill(from, buffer)?;
-    let written = sheet(&buffer[..n], out);
+    let written = sheet(front(buffer, n), out);
     Ok(send(to, &out.as_bytes()[..written])?)
 }
 
-// Says what failed, behind the program's name.
+// Says what failed, behind the program's name. The line is put together first and goes out by `send`, in one write: of a line that goes
+// out piece by piece a part can be left alone, or stand among those of another program. One that is too long for it does go out so.
 fn report<W: Write>(to: &mut W, name: &str, failure: Failure) -> io::Result<()>
     ensures { OnOk result (Appends (W.contents to.old) (W.contents to.new) (complaint name.now failure)) }
 {
-    writeln!(to, "{name}: {failure}")
+    let mut line = ArrayVec::<u8, LINE>::new();
+    if writeln!(line, "{name}: {failure}").is_err() {
+        return writeln!(to, "{name}: {failure}");
+    }
+    match send(to, line.as_slice()) {
+        Ok(_) => Ok(()),
+        Err(_) => Err(io::Error::from(ErrorKind::WriteZero)),
+    }
 }

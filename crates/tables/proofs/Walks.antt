@@ -58,7 +58,7 @@ module _ (ts : List Thread) (live from : ℕ) (c : Chain) (at : ℕ) (w : Walked
   left unspent = let other = eqb-false c.links live (sym w.tested ∙ not-true _ unspent) in omega (arith, w.spent)
 
   -- a link is left to spend, at a thread with this hold
-  next : not c.looped ≡ true → (h : Hold) → h ≡ hold_at ts at
+  pub next : not c.looped ≡ true → (h : Hold) → h ≡ hold_at ts at
       → follow (λ m d. walk_from (live - (c.links + 1)) ts m d) at (so_far c) h ≡ walk_from live ts from no_links
   next unspent h e =
       let short = left unspent in

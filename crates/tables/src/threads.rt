@@ -111,10 +111,14 @@ pub fn cut_from(n: u8, thread: Thread) -> Thread
 }
 
 #[tactic(auto, unfolding(rules::specs::Threads::links_cut))]
-pub fn links_cut(threads: [Thread; 128], n: u8) -> [Thread; 128]
+pub fn links_cut(mut threads: [Thread; 128], n: u8) -> [Thread; 128]
     ensures { result ≡ links_cut n threads }
 {
-    threads.map(|thread| cut_from(n, thread))
+    // In place: `map` makes a new table, in four times the time.
+    for k in 0..128 {
+        threads[k] = cut_from(n, threads[k]);
+    }
+    threads
 }
 
 // All links into the thread are cut, the server that it was Calling is an orphan, and its record is free.

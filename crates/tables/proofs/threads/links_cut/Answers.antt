@@ -1,10 +1,15 @@
 -- Each thread is looked at once, and its link into n is cut.
-use Rattle.std.proofs.Common.{rules}
-use Rattle.rules.specs.State.{free_thread}
-use Rattle.rules.specs.Threads.{links_cut, cut_from}
-use Rattle.tables.proofs.Mapping.{mapped}
+use Rattle.rules.specs.Threads.{links_cut}
+use Rattle.tables.proofs.Mapping.{begin, next, done}
 use Rattle.tables.proofs.threads.links_cut.Goals as goal
+
+pub loop-k-init : goal.loop-k-init
+loop-k-init c = begin _ _ _ c.well_formed.0.1.0.1
+
+pub loop-k-preserved : goal.loop-k-preserved
+loop-k-preserved c =
+    next _ _ _ _ _ _ c.loop-k.invariant c.loop-k-test.true c.cut_from.ensures
 
 pub returns : goal.returns
 unfolding links_cut
-returns c = mapped _ (cut_from c.args.n) _ (λ x y q k. search rules) free_thread _ _ _ c.map.ensures.items c.well_formed.0.1.0.1
+returns c = done _ _ _ _ _ c.loop-k.invariant c.loop-k-test.false
