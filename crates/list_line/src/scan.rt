@@ -44,7 +44,7 @@ pub fn scan_by<F: Fn(u8) -> bool>(text: &[u8], at: usize, stops: F) -> usize
     ensures { (test : ℕ → Bool) → ((b : ℕ) (r : Bool) → F.post stops b r → r ≡ test b)
         → result ≡ at + end_of test (drop at text.now) }
 {
-    // Not by `skip` and `position`: a scan is most of what a list costs, and that chain takes a third more.
+    // Not by `skip` and `position`: so, and with names told by `==`, lists took 12 to 28 % more instructions.
     for i in at..text.len() {
         if stops(text[i]) {
             return i;
